@@ -1,1 +1,3 @@
 pub mod IntRange
+pub mod Register
+pub mod Kernels
