@@ -10,7 +10,7 @@ pub record SourceState : Type 0 where
   pub piece : ℕ
   -- the numbers of the calls that fail, the first call being 1
   pub failing : List ℕ
-  -- how many calls there were, and how many of them failed
+  -- how many calls there were, and how many of them failed; both counts stay at the greatest 64-bit number
   pub calls : ℕ
   pub faults : ℕ
 
@@ -44,7 +44,7 @@ pub record SinkState : Type 0 where
   pub piece : ℕ
   -- the numbers of the calls that fail, the first call being 1
   pub failing : List ℕ
-  -- how many calls there were, and how many of them failed
+  -- how many calls there were, and how many of them failed; both counts stay at the greatest 64-bit number
   pub calls : ℕ
   pub faults : ℕ
 
