@@ -1,0 +1,10 @@
+mod Again
+mod Asked
+mod Complete
+mod Fine
+mod Refused
+mod Sound
+mod Steps
+mod Values
+mod Whole
+mod Words

@@ -1,0 +1,14 @@
+-- The exit status of each way to end.
+use Rattle.std.specs.Prelude.{ℕ}
+use Rattle.simd_top.specs.declared.status.Status.{Status}
+use Rattle.simd_top.specs.declared.status.Status.TheVariants.{Done, Refused, Usage, ReadFault, WriteFault, NoMemory, Undefined, Turns}
+
+abbrev pub code_of : Status → ℕ
+code_of Done = 0
+code_of Refused = 1
+code_of Usage = 2
+code_of ReadFault = 3
+code_of WriteFault = 4
+code_of NoMemory = 5
+code_of Undefined = 6
+code_of Turns = 7

@@ -1,0 +1,146 @@
+//! The top call: words, a source, and two sinks.
+
+ghost use Rattle.std.specs.Prelude.{◌≡◌, ◌≢◌, ◌≤◌, ◌⊎◌, ℕ, List, None, map, length, IfOk, IsErrOf, OnErr, Err, string_bytes, IsTrue, ◌↔◌};
+ghost use Rattle.mig_io.specs.Outside.{Rose, Grew};
+ghost use Rattle.simd_top.specs.Reading.{written_for};
+ghost use Rattle.simd_top.specs.Refusals.{source_limit, IsRefused};
+ghost use Rattle.simd_top.specs.TopCall.{AskToMigrate, usage_line, Writes, Refuses, Admits, IsDue, IsAnswer, Ends, Breaks};
+
+use crate::reading::{Fail, written};
+use crate::refusals::{bad_byte_line, first_bad, syntax_line, too_long_line};
+use crate::status::Status;
+use mig_io::{ReadFail, Sink, Source, read_all, write_all};
+use std::alloc::{AllocError, Global};
+
+/// The greatest number of bytes that a source may have.
+pub const SOURCE_LIMIT: usize = 1_048_576;
+
+const USAGE: &[u8] =
+    b"usage: simdmove migrate [KIND=PRICE].. | profile | run x86|neon NAME TURNS ITEM.. | both NAME TURNS ITEM.. | sample K [migrate]\n";
+
+// What is due to be written: the text that a source is migrated to, or the lines that say why it is refused.
+#[derive(Drop)]
+enum Due {
+    Out(Vec<u8>),
+    Report(Vec<u8>),
+}
+
+fn asks_to_migrate(words: &[String]) -> bool
+    ensures { IsTrue result ↔ AskToMigrate (map (λ w. string_bytes w) words.now) }
+{
+    match words.split_first() {
+        Some((word, others)) => others.is_empty() && word.as_str() == "migrate",
+        None => false,
+    }
+}
+
+// The line of a source that isn't in the first form from the place on that so many bytes are left from.
+fn refusal(alloc: Global, source: &[u8], left: usize) -> Result<Vec<u8>, AllocError>
+    requires within { length source.now ≤ source_limit }
+    requires unread { written_for source.now ≡ None }
+    ensures { IfOk result (λ line. IsRefused source.now line.items) }
+{
+    match first_bad(source) {
+        Some(i) => bad_byte_line(alloc, source, i),
+        None => syntax_line(alloc, source, left),
+    }
+}
+
+// What is due for the bytes of a source.
+fn answer(alloc: Global, source: &[u8]) -> Result<Due, ReadFail>
+    requires { length source.now ≤ source_limit }
+    ensures due { IfOk result (λ due. IsAnswer source.now due) }
+    ensures memory_alone { OnErr result (result ≡ Err ReadFail.Memory) }
+{
+    match written(alloc, source) {
+        Ok(text) => Ok(Due::Out(text)),
+        Err(Fail::Memory) => Err(ReadFail::Memory),
+        Err(Fail::Syntax(left)) => {
+            let line = refusal(alloc, source, left)?;
+            Ok(Due::Report(line))
+        }
+    }
+}
+
+// What is due for a source.
+fn made_of<S: Source>(alloc: Global, source: &mut S) -> Result<Due, ReadFail>
+    ensures due { IfOk result (λ due. IsDue (S.left source.old) (S.left source.new) due) }
+    ensures fault { IsErrOf result ReadFail.Fault → Rose (S.faults source.old) (S.faults source.new) }
+    ensures read { IsErrOf result ReadFail.TooLong → ⊥ }
+{
+    match read_all(alloc, source, SOURCE_LIMIT) {
+        Ok(bytes) => answer(alloc, &bytes),
+        Err(ReadFail::TooLong) => {
+            let line = too_long_line(alloc)?;
+            Ok(Due::Report(line))
+        }
+        Err(fail) => Err(fail),
+    }
+}
+
+// Writes the text that is due, and answers the status.
+fn finish<K: Sink>(sink: &mut K, text: &[u8], status: Status) -> Status
+    ensures { Ends result status text.now (K.held sink.old) (K.held sink.new) (K.faults sink.old) (K.faults sink.new) }
+{
+    match write_all(sink, text) {
+        Ok(()) => status,
+        Err(_) => Status::WriteFault,
+    }
+}
+
+/// Does what the words ask for: reads the source, and writes the migrated unit to `out`, or why there is none to `report`.
+///
+/// The words that are built are `migrate` alone. Everything is made before the first byte is written, and only one of the
+/// sinks is written to. Memory may run out in place of every status but `Usage` and `WriteFault`; no clause says when.
+pub fn simdmove<S: Source, O: Sink, E: Sink>(
+    alloc: Global,
+    words: &[String],
+    source: &mut S,
+    out: &mut O,
+    report: &mut E,
+) -> Status
+    // The unit is migrated: `out` grew by the text, which is a Neon unit of the same functions.
+    ensures done { result ≡ Status.Done → AskToMigrate (map (λ w. string_bytes w) words.now) × (report.new ≡ report.old)
+        × (text : List ℕ) × Writes (S.left source.old) (S.left source.new) text × Grew (O.held out.old) text (O.held out.new) }
+
+    // The source is refused: `report` grew by the line that is due.
+    ensures refused { result ≡ Status.Refused → AskToMigrate (map (λ w. string_bytes w) words.now) × (out.new ≡ out.old)
+        × (line : List ℕ) × Refuses (S.left source.old) line × Grew (E.held report.old) line (E.held report.new) }
+
+    // The words are others: the source isn't read.
+    ensures usage { result ≡ Status.Usage → ¬ AskToMigrate (map (λ w. string_bytes w) words.now)
+        × (source.new ≡ source.old) × (out.new ≡ out.old) × Grew (E.held report.old) usage_line (E.held report.new) }
+
+    ensures read_fault { result ≡ Status.ReadFault → AskToMigrate (map (λ w. string_bytes w) words.now)
+        × (out.new ≡ out.old) × (report.new ≡ report.old) × Rose (S.faults source.old) (S.faults source.new) }
+
+    // The sink of the due text had a fault, and took a proper prefix of that text; the other is unchanged.
+    ensures write_fault { result ≡ Status.WriteFault →
+        (¬ AskToMigrate (map (λ w. string_bytes w) words.now) × (source.new ≡ source.old) × (out.new ≡ out.old)
+        × Breaks usage_line (E.held report.old) (E.held report.new) (E.faults report.old) (E.faults report.new))
+        ⊎ ((AskToMigrate (map (λ w. string_bytes w) words.now) × (out.new ≡ out.old) × (line : List ℕ) × Refuses (S.left source.old) line
+        × Breaks line (E.held report.old) (E.held report.new) (E.faults report.old) (E.faults report.new))
+        ⊎ (AskToMigrate (map (λ w. string_bytes w) words.now) × (report.new ≡ report.old) × (text : List ℕ) × Writes (S.left source.old) (S.left source.new) text
+        × Breaks text (O.held out.old) (O.held out.new) (O.faults out.old) (O.faults out.new))) }
+
+    ensures no_memory { result ≡ Status.NoMemory → AskToMigrate (map (λ w. string_bytes w) words.now)
+        × (out.new ≡ out.old) × (report.new ≡ report.old) }
+
+    // Nothing is run.
+    ensures undefined { result ≢ Status.Undefined }
+    ensures turns { result ≢ Status.Turns }
+
+    // An admitted unit isn't refused: without faults it is migrated, unless memory runs out.
+    ensures admitted { Admits (S.left source.old) → result ≢ Status.Refused }
+{
+    if asks_to_migrate(words) {
+        match made_of(alloc, source) {
+            Ok(Due::Out(text)) => finish(out, &text, Status::Done),
+            Ok(Due::Report(line)) => finish(report, &line, Status::Refused),
+            Err(ReadFail::Fault) => Status::ReadFault,
+            Err(_) => Status::NoMemory,
+        }
+    } else {
+        finish(report, USAGE, Status::Usage)
+    }
+}
