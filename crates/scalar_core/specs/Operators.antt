@@ -1,6 +1,6 @@
 -- What the operators of C give: the types that the operands are brought to, the type of the result, and the result where C
 -- defines it (C11 6.5.3.3, 6.5.5 to 6.5.12).
-use Rattle.std.specs.Prelude.{◌-◌, ◌^◌, Bool, true, false, not, ◌&&◌, if◌then◌else◌, Option, Some, None, ℤ, pos, ◌+ℤ◌, ◌-ℤ◌, ◌*ℤ◌, neg_ℤ, int_lt, int_le, int_div, int_rem, unsigned_abs, bit_and, bit_or, bit_xor}
+use Rattle.std.specs.Prelude.{◌≡◌, IfSome, ◌-◌, ◌^◌, Bool, true, false, not, ◌&&◌, if◌then◌else◌, Option, Some, None, ℤ, pos, ◌+ℤ◌, ◌-ℤ◌, ◌*ℤ◌, neg_ℤ, int_lt, int_le, int_div, int_rem, unsigned_abs, bit_and, bit_or, bit_xor}
 use Rattle.std.specs.Int.{int_shr}
 use Rattle.std.specs.Ordering.{int_eq}
 use Rattle.lane_core.specs.declared.number.IntType.{IntType}
@@ -103,3 +103,7 @@ operate_unary Not n = Some (truth (int_eq n.value (pos 0)))
 -- the result of an operator before a number, or none where C leaves it undefined
 unfoldable pub unary_of : UnOp → Num → Option Num
 unary_of op n = operate_unary op (converted (promoted n.ty) n)
+
+-- a result, if there is one, has this type
+abbrev pub HasType : IntType → Option Num → Type 0
+HasType t o = IfSome o (λ n. n.ty ≡ t)
