@@ -42,10 +42,7 @@ operate Rem l r =
 operate Add l r = arithmetic l.ty (l.value +ℤ r.value)
 operate Sub l r = arithmetic l.ty (l.value -ℤ r.value)
 -- shifts (6.5.7): a negative value isn't shifted to the left; to the right it is divided and rounded down, by this project's choice
-operate Shl l r =
-    if not (is_count l.ty r.value) then None
-    else if int_lt l.value (pos 0) then None
-    else arithmetic l.ty (l.value *ℤ pos (2 ^ unsigned_abs r.value))
+operate Shl l r = if is_count l.ty r.value && int_le (pos 0) l.value then arithmetic l.ty (l.value *ℤ pos (2 ^ unsigned_abs r.value)) else None
 operate Shr l r = if is_count l.ty r.value then Some (num_of l.ty (int_shr l.value (unsigned_abs r.value))) else None
 -- relational (6.5.8) and equality (6.5.9)
 operate Lt l r = Some (truth (int_lt l.value r.value))
