@@ -1,0 +1,7 @@
+pub mod RefusalNames
+pub mod Source
+pub mod Forms
+pub mod Splicing
+pub mod Tokens
+pub mod Reading
+pub mod Answers

@@ -1,0 +1,12 @@
+//! From the bytes of a C text to its tokens, by ISO C11 5.1.1.2 and 6.4.
+#![tactic(auto)]
+
+mod lexer;
+mod pieces;
+mod refusals;
+mod source;
+mod tokens;
+
+pub use lexer::{lex, one_token_list, tokens_or_fault};
+pub use refusals::{Fail, Refusal, refusal_name};
+pub use tokens::{Dialect, Place, Text, Token, TokenKind};
