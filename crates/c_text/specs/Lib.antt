@@ -5,3 +5,4 @@ pub mod Splicing
 pub mod Tokens
 pub mod Reading
 pub mod Answers
+pub mod PredefinedNames

@@ -3,10 +3,12 @@
 
 mod lexer;
 mod pieces;
+mod predefined;
 mod refusals;
 mod source;
 mod tokens;
 
 pub use lexer::{lex, one_token_list, tokens_or_fault};
+pub use predefined::{PredefinedName, predefined_names};
 pub use refusals::{Fail, Refusal, refusal_name};
 pub use tokens::{Dialect, Place, Text, Token, TokenKind};
