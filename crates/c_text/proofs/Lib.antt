@@ -4,3 +4,4 @@ pub mod Scans
 pub mod Shapes
 pub mod Longest
 pub mod Cuts
+pub mod Quotes

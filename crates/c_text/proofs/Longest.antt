@@ -1,14 +1,14 @@
 -- The piece that is read at a byte has the form of its sort, and no longer prefix has a form.
-use Rattle.std.proofs.Common.{◌≡◌, ℕ, zero, suc, ◌+◌, ◌<◌, ◌≤◌, List, [], ◌∷◌, ◌++◌, length, take, drop, Option, Some, None, Bool, true, false, cond, refl, sym, ◌∙◌, ap, subst, arith, add-one, length-append, append-nil}
+use Rattle.std.proofs.Common.{◌≡◌, ℕ, zero, suc, ◌+◌, ◌≤◌, List, [], ◌∷◌, ◌++◌, length, take, drop, Option, Some, None, Bool, true, false, cond, refl, sym, ◌∙◌, ap, subst, arith, add-one, length-append, append-nil}
 use Rattle.std.proofs.Math.Seq.{take-length}
 use Rattle.std.specs.Prelude.{not, ◌==◌, ◌&&◌, ◌||◌}
 use Rattle.std.proofs.lemmas.Bool.{eqb-true}
 use Rattle.c_text.specs.declared.tokens.TokenKind.TheVariants.{Name, Number, Quote, Str, Mark, Lone}
 use Rattle.c_text.specs.declared.pieces.Sort.{Sort}
 use Rattle.c_text.specs.declared.pieces.Sort.TheVariants.{Lexeme, Blank, LineEnd, Comment, Open, Bad}
-use Rattle.c_text.specs.Forms.{is_one_of, all_are, is_empty, starts, is_digit, is_letter, is_name_byte, is_name, goes_on, all_go_on, begins_number, is_number, closes, is_quoted, is_utf8_quoted, is_wide, is_constant, is_string, is_mark_byte, is_mark_pair, is_mark_triple, is_mark, is_blank, is_no_line_end, ends_comment, stays_open, is_comment, is_comment_tail, is_open, is_open_tail, is_lone, is_bad, is_printable, is_single, form_of}
+use Rattle.c_text.specs.Forms.{is_one_of, all_are, starts, is_digit, is_letter, is_name_byte, is_name, goes_on, all_go_on, begins_number, is_number, closes, is_quoted, is_utf8_quoted, is_wide, is_constant, is_string, is_mark_byte, is_mark_pair, is_mark_triple, is_mark, is_blank, is_no_line_end, ends_comment, stays_open, is_comment, is_comment_tail, is_open, is_open_tail, is_lone, is_bad, is_printable, is_single, form_of}
 use Rattle.c_text.specs.Reading.{run, number_run, partner, comment_end, one_more, quoted, utf8_quoted, only_if, or_piece, letter_at, mark_more, slash_at, single_of, other_at, piece_at}
-use Rattle.c_text.proofs.Scans.{out, both, Reads, no_bytes, empty_length, run_reads, number_reads, partner_reads, comment_reads, quoted_reads, utf8_reads, heads, all_shorter, open_shorter, stays_open_none}
+use Rattle.c_text.proofs.Scans.{out, both, Reads, no_bytes, run_reads, number_reads, partner_reads, comment_reads, quoted_reads, utf8_reads, heads, all_shorter, open_shorter, stays_open_none}
 use Rattle.c_text.proofs.Shapes.{form_name, form_number, form_constant, form_string, form_mark, longest_form, no_name, no_number, no_constant, no_string, no_mark, no_comment, no_open, wide_letter, letter_no_mark, digit_no_mark, letter_other, other_letter, digit_other, letter_no_digit}
 
 abbrev pub PieceIs : ℕ → List ℕ → Sort × ℕ → Type 0

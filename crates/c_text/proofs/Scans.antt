@@ -1,7 +1,6 @@
 -- What each scan finds is the longest prefix that passes its test.
-use Rattle.std.proofs.Common.{◌≡◌, ℕ, zero, suc, ◌+◌, ◌<◌, ◌≤◌, List, [], ◌∷◌, ◌++◌, length, take, drop, Option, Some, None, Bool, true, false, cond, refl, sym, ◌∙◌, ap, arith, add-zero, add-one}
-use Rattle.std.specs.Prelude.{not, ◌==◌, ◌&&◌, ◌||◌}
-use Rattle.std.proofs.lemmas.Bool.{eqb-true}
+use Rattle.std.proofs.Common.{◌≡◌, ℕ, suc, ◌+◌, ◌≤◌, List, [], ◌∷◌, ◌++◌, length, take, Option, Some, None, Bool, true, false, cond, refl, sym, ◌∙◌, arith, add-zero, add-one}
+use Rattle.std.specs.Prelude.{◌==◌, ◌&&◌}
 use Rattle.c_text.specs.Forms.{all_are, is_empty, starts, goes_on, all_go_on, is_partner, escapes, closes, is_quoted, is_utf8_quoted, ends_comment, stays_open}
 use Rattle.c_text.specs.Reading.{run, number_run, partner, comment_end, one_more, quoted, utf8_quoted}
 

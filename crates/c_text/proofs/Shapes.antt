@@ -1,12 +1,12 @@
 -- Which forms bytes have, by their first byte.
-use Rattle.std.proofs.Common.{◌≡◌, ℕ, zero, suc, ◌+◌, ◌<◌, ◌≤◌, List, [], ◌∷◌, ◌++◌, length, take, drop, Option, Some, None, Bool, true, false, cond, refl, sym, ◌∙◌, ap, arith}
+use Rattle.std.proofs.Common.{◌≡◌, ℕ, ◌≤◌, List, [], ◌∷◌, ◌++◌, length, Option, Some, Bool, true, false, cond, refl, sym, arith}
 use Rattle.std.specs.Prelude.{not, ◌==◌, ◌&&◌, ◌||◌, codes}
 use Rattle.std.proofs.lemmas.Bool.{eqb-true}
 use Rattle.std.proofs.lemmas.Bool.Decides.{nat_tests}
-use Rattle.c_text.specs.declared.tokens.TokenKind.TheVariants.{Name, Number, Quote, Str, Mark, Lone}
+use Rattle.c_text.specs.declared.tokens.TokenKind.TheVariants.{Name, Number, Quote, Str, Mark}
 use Rattle.c_text.specs.declared.pieces.Sort.{Sort}
-use Rattle.c_text.specs.declared.pieces.Sort.TheVariants.{Lexeme, Blank, LineEnd, Comment, Open, Bad}
-use Rattle.c_text.specs.Forms.{is_one_of, all_are, is_empty, starts, is_digit, is_letter, is_name_byte, is_name, begins_number, is_number, is_quoted, is_wide, is_constant, is_string, is_mark_byte, is_mark_pair, is_mark_triple, is_mark, is_blank, is_comment, is_comment_tail, is_open, is_open_tail, is_lone, is_bad, is_printable, is_single, form_of}
+use Rattle.c_text.specs.declared.pieces.Sort.TheVariants.{Lexeme}
+use Rattle.c_text.specs.Forms.{is_one_of, all_are, is_empty, starts, is_digit, is_letter, is_name, begins_number, is_number, is_wide, is_constant, is_string, is_mark_byte, is_mark, is_blank, is_comment, is_open, is_lone, is_bad, is_single, form_of}
 use Rattle.c_text.proofs.Scans.{out, both, empty_length}
 
 is_feed : ℕ → Bool

@@ -1,8 +1,6 @@
 -- Steps of the loop over pieces.
-use Rattle.std.proofs.Common.{◌≡◌, ℕ, zero, suc, ◌+◌, ◌<◌, ◌≤◌, List, [], ◌∷◌, ◌++◌, length, take, drop, Bool, true, false, refl, sym, ◌∙◌, ap, arith, append_assoc, append-nil, add-one, Result, Option, Some, None, Ok, Err, Vec}
-use Rattle.std.specs.declared.alloc.Global.{Global}
+use Rattle.std.proofs.Common.{◌≡◌, ℕ, zero, suc, ◌+◌, ◌<◌, ◌≤◌, List, [], ◌∷◌, ◌++◌, length, take, drop, Bool, true, false, refl, sym, ◌∙◌, ap, arith, append_assoc, append-nil, add-one, Some, None, Err}
 use Rattle.c_text.specs.declared.tokens.Token.{Token}
-use Rattle.c_text.specs.declared.tokens.Place.{Place}
 use Rattle.c_text.specs.declared.refusals.Refusal.{Refusal}
 use Rattle.c_text.specs.declared.refusals.Fail.{Fail}
 use Rattle.c_text.specs.declared.refusals.Fail.TheVariants.{Refused, Memory}
@@ -14,7 +12,7 @@ use Rattle.c_text.specs.declared.tokens.TokenKind.TheVariants.{Name}
 use Rattle.std.specs.Prelude.{nat_lt}
 use Rattle.std.proofs.lemmas.Bool.Decides.{nat_tests}
 use Rattle.c_text.specs.Source.{bytes_of}
-use Rattle.c_text.specs.Tokens.{Piece, bytes_in, long_name, long_names, is_white, first_behind, token_in, tokens_of, faults_in, faults_of, first_of}
+use Rattle.c_text.specs.Tokens.{bytes_in, long_name, long_names, is_white, first_behind, token_in, tokens_of, faults_in, faults_of, first_of}
 use Rattle.c_text.specs.Reading.{piece_at, piece_of, pieces}
 use Rattle.c_text.specs.Answers.{Refuses, Gives}
 

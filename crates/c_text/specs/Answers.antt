@@ -1,5 +1,5 @@
 -- What the answer of a reader says.
-use Rattle.std.specs.Prelude.{◌≡◌, ℕ, List, [], ◌∷◌, Option, Some, option_map, Result, Ok, Err, Vec, false, true}
+use Rattle.std.specs.Prelude.{◌≡◌, ℕ, List, [], Option, Some, option_map, Result, Ok, Err, Vec, false, true}
 use Rattle.std.specs.declared.alloc.Global.{Global}
 use Rattle.c_text.specs.declared.tokens.Token.{Token}
 use Rattle.c_text.specs.declared.refusals.Refusal.{Refusal}

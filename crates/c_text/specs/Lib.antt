@@ -6,3 +6,4 @@ pub mod Tokens
 pub mod Reading
 pub mod Answers
 pub mod PredefinedNames
+pub mod AloneQuotes

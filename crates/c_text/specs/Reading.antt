@@ -1,12 +1,11 @@
 -- Reading from left to right: which piece comes first, and the pieces of a text.
-use Rattle.std.specs.Prelude.{◌≡◌, ℕ, zero, suc, ◌+◌, List, [], ◌∷◌, length, take, Option, Some, None, Result, Ok, Err, Bool, true, false, not, ◌&&◌, ◌||◌, ◌==◌, if◌then◌else◌}
-use Rattle.c_text.specs.declared.tokens.TokenKind.{TokenKind}
+use Rattle.std.specs.Prelude.{ℕ, zero, suc, ◌+◌, List, [], ◌∷◌, length, take, Option, Some, None, Bool, true, false, ◌&&◌, ◌==◌, if◌then◌else◌}
 use Rattle.c_text.specs.declared.tokens.TokenKind.TheVariants.{Name, Number, Quote, Str, Mark, Lone}
 use Rattle.c_text.specs.declared.source.Placed.{Placed}
 use Rattle.c_text.specs.declared.pieces.Sort.{Sort}
 use Rattle.c_text.specs.declared.pieces.Sort.TheVariants.{Lexeme, Blank, LineEnd, Comment, Open, Bad}
 use Rattle.c_text.specs.Source.{bytes_of}
-use Rattle.c_text.specs.Forms.{is_letter, is_digit, is_name_byte, goes_on, begins_number, is_partner, escapes, is_wide, is_mark_byte, is_mark_pair, is_mark_triple, is_blank, is_no_line_end, is_lone}
+use Rattle.c_text.specs.Forms.{is_letter, is_name_byte, goes_on, begins_number, is_partner, escapes, is_wide, is_mark_byte, is_mark_pair, is_mark_triple, is_blank, is_no_line_end, is_lone}
 use Rattle.c_text.specs.Tokens.{Piece}
 
 -- how many bytes of this kind come first, and n more

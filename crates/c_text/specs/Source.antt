@@ -1,6 +1,5 @@
 -- The bytes that a text shows: each with its place, line ends and splices resolved (C11 5.1.1.2, phases 1 and 2).
-use Rattle.std.specs.Prelude.{ℕ, ◌+◌, List, [], ◌∷◌, Bool, true, false, not, ◌&&◌, ◌||◌, ◌==◌, if◌then◌else◌}
-use Rattle.c_text.specs.declared.tokens.Place.{Place}
+use Rattle.std.specs.Prelude.{ℕ, ◌+◌, List, [], ◌∷◌, Bool, false, ◌&&◌, ◌||◌, ◌==◌, if◌then◌else◌}
 use Rattle.c_text.specs.declared.source.Placed.{Placed}
 
 -- a byte order mark of UTF-8 at the start is no part of the text

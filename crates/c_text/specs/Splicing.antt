@@ -1,5 +1,5 @@
 -- The same bytes in one pass over the source.
-use Rattle.std.specs.Prelude.{ℕ, ◌+◌, List, [], ◌∷◌, ◌++◌, Bool, true, false, not, ◌&&◌, ◌||◌, ◌==◌, if◌then◌else◌}
+use Rattle.std.specs.Prelude.{ℕ, List, [], ◌∷◌, ◌++◌, Bool, false, ◌&&◌, ◌||◌, ◌==◌, if◌then◌else◌}
 use Rattle.c_text.specs.declared.source.Placed.{Placed}
 use Rattle.c_text.specs.Source.{at_place, line_behind, col_behind}
 use Rattle.c_text.specs.Forms.{starts}

@@ -1,13 +1,12 @@
 -- The tokens of a text (C11 5.1.1.2, phase 3, and 6.4).
 use Rattle.std.specs.Prelude.{◌≡◌, ℕ, ◌+◌, ◌/◌, ◌%◌, ◌≤◌, List, [], ◌∷◌, ◌++◌, length, take, Option, Some, None, Bool, true, false, nat_lt, if◌then◌else◌, codes}
-use Rattle.c_text.specs.declared.tokens.TokenKind.{TokenKind}
-use Rattle.c_text.specs.declared.tokens.TokenKind.TheVariants.{Name, Number, Quote, Str, Mark, Lone}
+use Rattle.c_text.specs.declared.tokens.TokenKind.TheVariants.{Name}
 use Rattle.c_text.specs.declared.tokens.Place.{Place}
 use Rattle.c_text.specs.declared.tokens.Token.{Token}
 use Rattle.c_text.specs.declared.refusals.Refusal.{Refusal}
 use Rattle.c_text.specs.declared.source.Placed.{Placed}
 use Rattle.c_text.specs.declared.pieces.Sort.{Sort}
-use Rattle.c_text.specs.declared.pieces.Sort.TheVariants.{Lexeme, Blank, LineEnd, Comment, Open, Bad}
+use Rattle.c_text.specs.declared.pieces.Sort.TheVariants.{Lexeme, Blank, LineEnd, Comment, Open}
 use Rattle.c_text.specs.Source.{shown, bytes_of}
 use Rattle.c_text.specs.Forms.{form_of, is_bad}
 

@@ -9,7 +9,7 @@ ghost use Rattle.c_text.specs.Tokens.{is_white, first_behind, token_in, hex_digi
 ghost use Rattle.c_text.specs.Reading.{piece_of, pieces};
 ghost use Rattle.c_text.specs.Answers.{refusal_of, Refuses, IsFirst, Gives, IfRefused};
 
-use crate::pieces::{Sort, is_bad, piece_at};
+use crate::pieces::{Alone, Sort, alone_behind, is_alone, is_bad, piece_at};
 use crate::refusals::{Fail, Refusal};
 use crate::source::{Placed, bytes_of, shown};
 use crate::tokens::{Place, Text, Token, TokenKind};
@@ -189,18 +189,24 @@ fn lex_pieces(alloc: Global, chars: &[Placed], bytes: &[u8]) -> Result<Vec<Token
     let mut out = Vec::new(alloc);
     let mut spaced = false;
     let mut first = true;
+    let mut alone = Alone {
+        single: false,
+        double: false,
+    };
     let mut rest = chars;
     let mut text = bytes;
     while let Some((begin, behind)) = rest.split_first() {
         let begin = *begin;
         let bytes_behind = behind_first(text);
-        let (sort, n) = piece_at(begin.byte, bytes_behind);
+        let is_alone = is_alone(alone, begin.byte);
+        let (sort, n) = piece_at(begin.byte, bytes_behind, is_alone);
         let (others, after) = behind.split_at(n);
         let (spelling, text_after) = text.split_at(n + 1);
         if let Some(fault) = fault_in(sort, begin, others) {
             return Err(refuse(alloc, fault, spelling));
         }
         push_token(alloc, &mut out, sort, spelling, begin.place, spaced, first)?;
+        alone = alone_behind(alone, sort, begin.byte, spelling);
         spaced = is_white(sort);
         first = first_behind(sort, first);
         rest = after;

@@ -1,10 +1,11 @@
 //! Which piece comes first in a text: a token, white space or a comment.
 
-ghost use Rattle.std.specs.Prelude.{◌≡◌, ◌+◌, ◌≤◌, length, IfSome, true, false};
-ghost use Rattle.c_text.specs.Forms.{is_digit, is_letter, is_name_byte, is_one_of, is_wide, begins_number, goes_on, is_mark_byte, is_mark_pair, is_mark_triple, is_blank, is_lone, is_bad, is_no_line_end};
+ghost use Rattle.std.specs.Prelude.{◌≡◌, ◌+◌, ◌≤◌, length, IfSome, None, ◌&&◌, ◌||◌, ◌==◌, true, false};
+ghost use Rattle.c_text.specs.Forms.{all_are, is_digit, is_letter, is_name_byte, is_one_of, is_wide, begins_number, goes_on, is_mark_byte, is_mark_pair, is_mark_triple, is_blank, is_lone, is_bad, is_no_line_end};
 ghost use Rattle.c_text.specs.declared.pieces.Sort.TheVariants.{Lexeme};
 ghost use Rattle.c_text.specs.declared.tokens.TokenKind.TheVariants.{Lone};
 ghost use Rattle.c_text.specs.Reading.{run, number_run, partner, comment_end, quoted, utf8_quoted, only_if, or_piece, letter_at, mark_more, slash_at, single_of, other_at, piece_at};
+ghost use Rattle.c_text.specs.AloneQuotes.{is_alone, alone_behind, is_lone_sort};
 
 use crate::tokens::TokenKind;
 
@@ -270,14 +271,68 @@ fn slash_at(rest: &[u8]) -> (Sort, usize)
     (Sort::Lexeme(TokenKind::Mark), mark_more(b'/', rest))
 }
 
-// The piece that begins with a quote, and how many bytes it has behind that.
-fn quote_at(quote: u8, kind: TokenKind, rest: &[u8]) -> (Sort, usize)
+// The piece that begins with a quote, which may be known to have no partner, and how many bytes it has behind that.
+fn quote_at(quote: u8, kind: TokenKind, rest: &[u8], alone: bool) -> (Sort, usize)
+    requires { alone ≡ true → partner quote false 0 rest.now ≡ None }
     ensures value { result ≡ or_piece (partner quote false 0 rest.now) (Lexeme kind) (Lexeme Lone, 0) }
     ensures within { result.1 ≤ length rest.now }
 {
+    if alone {
+        return (Sort::Lexeme(TokenKind::Lone), 0);
+    }
     match partner(quote, rest) {
         Some(n) => (Sort::Lexeme(kind), n),
         None => (Sort::Lexeme(TokenKind::Lone), 0),
+    }
+}
+
+/// Which quotes are known to have no partner before the line's end.
+#[derive(Clone, Copy, Debug)]
+pub struct Alone {
+    pub single: bool,
+    pub double: bool,
+}
+
+/// Whether a byte is one of them.
+pub fn is_alone(alone: Alone, b: u8) -> bool
+    ensures { result ≡ is_alone alone b }
+{
+    (b == b'\'' && alone.single) || (b == b'"' && alone.double)
+}
+
+fn stays_on_line(bytes: &[u8]) -> bool
+    ensures { result ≡ all_are is_no_line_end bytes.now }
+{
+    for b in bytes {
+        if *b == b'\n' {
+            return false;
+        }
+    }
+    true
+}
+
+/// Which quotes are known to have no partner behind a piece of these bytes.
+pub fn alone_behind(alone: Alone, sort: Sort, first: u8, bytes: &[u8]) -> Alone
+    ensures { result ≡ alone_behind alone sort first bytes.now }
+{
+    let same_line = stays_on_line(bytes);
+    let lone = is_lone_sort(sort);
+    Alone {
+        single: same_line && (alone.single || (lone && first == b'\'')),
+        double: same_line && (alone.double || (lone && first == b'"')),
+    }
+}
+
+fn is_lone_sort(sort: Sort) -> bool
+    ensures { result ≡ is_lone_sort sort }
+{
+    match sort {
+        Sort::Lexeme(kind) => match kind {
+            TokenKind::Lone => true,
+            TokenKind::Name | TokenKind::Number | TokenKind::Quote => false,
+            TokenKind::Str | TokenKind::Mark => false,
+        },
+        Sort::Blank | Sort::LineEnd | Sort::Comment | Sort::Open | Sort::Bad => false,
     }
 }
 
@@ -296,14 +351,15 @@ fn single_of(b: u8) -> Sort
 }
 
 // The piece that begins with a byte other than a letter or a digit, and how many bytes it has behind that.
-fn other_at(first: u8, rest: &[u8]) -> (Sort, usize)
+fn other_at(first: u8, rest: &[u8], alone: bool) -> (Sort, usize)
+    requires { alone ≡ true → partner first false 0 rest.now ≡ None }
     ensures value { result ≡ other_at first rest.now }
     ensures within { result.1 ≤ length rest.now }
 {
     if first == b'\'' {
-        quote_at(b'\'', TokenKind::Quote, rest)
+        quote_at(b'\'', TokenKind::Quote, rest, alone)
     } else if first == b'"' {
-        quote_at(b'"', TokenKind::Str, rest)
+        quote_at(b'"', TokenKind::Str, rest, alone)
     } else if first == b'/' {
         slash_at(rest)
     } else if is_mark_byte(first) {
@@ -320,9 +376,11 @@ fn begins_number(first: u8, rest: &[u8]) -> bool
     is_digit(first) || (first == b'.' && rest.len() > 0 && is_digit(rest[0]))
 }
 
-/// The piece that begins with a byte, and how many bytes it has behind that.
+/// The piece that begins with a byte, and how many bytes it has behind that. The byte may be a quote that is known to have no
+/// partner on its line, which then isn't looked for again.
 #[tactic(auto, unfolding(crate::specs::Reading::piece_at))]
-pub fn piece_at(first: u8, rest: &[u8]) -> (Sort, usize)
+pub fn piece_at(first: u8, rest: &[u8], alone: bool) -> (Sort, usize)
+    requires { alone ≡ true → partner first false 0 rest.now ≡ None }
     ensures value { result ≡ piece_at first rest.now }
     ensures within { result.1 ≤ length rest.now }
 {
@@ -331,6 +389,6 @@ pub fn piece_at(first: u8, rest: &[u8]) -> (Sort, usize)
     } else if begins_number(first, rest) {
         (Sort::Lexeme(TokenKind::Number), number_run(first, rest))
     } else {
-        other_at(first, rest)
+        other_at(first, rest, alone)
     }
 }

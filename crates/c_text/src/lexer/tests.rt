@@ -63,7 +63,7 @@ fn show(alloc: Global, source: &[u8]) -> Result<Vec<u8>, AllocError> {
 }
 
 // By ISO C11 5.1.1.2 and 6.4.
-static ROWS: [(&'static [u8], &'static [u8]); 31] = [
+static ROWS: [(&'static [u8], &'static [u8]); 33] = [
     (b"", b""),
     (b"a+++b", b"N1:1^ a\nM1:2 ++\nM1:4 +\nN1:5 b\n"),
     (b"x/**/y", b"N1:1^ x\nN1:6_ y\n"),
@@ -108,6 +108,11 @@ static ROWS: [(&'static [u8], &'static [u8]); 31] = [
     ),
     (b"@$a`", b"L1:1^ @\nL1:2 $\nN1:3 a\nL1:4 `\n"),
     (b"/*\x01\xff*/a", b"N1:7^_ a\n"),
+    (
+        b"\"\\\"\\\"\n\"\"",
+        b"L1:1^ \"\nL1:2 \\\nL1:3 \"\nL1:4 \\\nL1:5 \"\nS2:1^_ \"\"\n",
+    ),
+    (b"'\\'/*\n*/''", b"L1:1^ '\nL1:2 \\\nL1:3 '\nQ2:3_ ''\n"),
     (b"''", b"Q1:1^ ''\n"),
     (
         b"<immintrin.h>",
