@@ -8,7 +8,7 @@ use Rattle.c_text.specs.declared.source.Placed.{Placed}
 use Rattle.c_text.specs.declared.pieces.Sort.{Sort}
 use Rattle.c_text.specs.declared.pieces.Sort.TheVariants.{Lexeme, Blank, LineEnd, Comment, Open}
 use Rattle.c_text.specs.Source.{shown, bytes_of}
-use Rattle.c_text.specs.Forms.{form_of, is_bad}
+use Rattle.c_text.specs.Forms.{is_name, form_of, is_bad}
 
 -- a piece of a text: a token, white space, a comment, or a fault; it has one byte at least
 pub record Piece : Type 0 where
@@ -24,7 +24,7 @@ abbrev pub IsLongest : ℕ → List ℕ → Type 0
 IsLongest n text = (front rest : List ℕ) (s : Sort) → text ≡ front ++ rest → form_of front ≡ Some s → length front ≤ n
 
 -- the text is cut into these pieces, each the longest at its place
-abbrev pub Cut : List Placed → List Piece → Type 0
+unfoldable pub Cut : List Placed → List Piece → Type 0
 Cut text [] = text ≡ []
 Cut text (p ∷ ps) =
     (rest : List Placed) × (text ≡ (p.begin ∷ p.others) ++ rest) × (form_of (bytes_in p) ≡ Some p.sort) ×
@@ -89,10 +89,15 @@ abbrev pub first_of : List Refusal → Option Refusal
 first_of [] = None
 first_of (r ∷ rs) = Some r
 
+-- each name among these tokens is made of letters, digits and `_`, without a digit first
+abbrev pub AllNamed : List Token → Type 0
+AllNamed [] = Unit {0}
+AllNamed (t ∷ ts) = (t.kind ≡ Name → is_name t.text ≡ true) × AllNamed ts
+
 -- the source has these tokens
-abbrev pub Tokens : List ℕ → List Token → Type 0
+unfoldable pub Tokens : List ℕ → List Token → Type 0
 Tokens source tokens = (ps : List Piece) × Cut (shown source) ps × (faults_of ps ≡ []) × (tokens ≡ tokens_of false true ps)
 
 -- the source has no tokens, and this is the first fault in it
-abbrev pub FirstFault : List ℕ → Refusal → Type 0
+unfoldable pub FirstFault : List ℕ → Refusal → Type 0
 FirstFault source fault = (ps : List Piece) × Cut (shown source) ps × (first_of (faults_of ps) ≡ Some fault)

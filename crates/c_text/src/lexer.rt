@@ -5,7 +5,7 @@ ghost use Rattle.c_text.specs.declared.tokens.Token.{Token};
 ghost use Rattle.c_text.specs.declared.refusals.Refusal.{Refusal};
 ghost use Rattle.c_text.specs.declared.pieces.Sort.TheVariants.{Lexeme};
 ghost use Rattle.c_text.specs.Source.{bytes_of};
-ghost use Rattle.c_text.specs.Tokens.{is_white, first_behind, token_in, hex_digit, bad_byte, bad_bytes, long_names, bytes_in, faults_in, first_of, Tokens, FirstFault};
+ghost use Rattle.c_text.specs.Tokens.{is_white, first_behind, token_in, hex_digit, bad_byte, bad_bytes, long_names, bytes_in, faults_in, first_of, AllNamed, Tokens, FirstFault};
 ghost use Rattle.c_text.specs.Reading.{piece_of, pieces};
 ghost use Rattle.c_text.specs.Answers.{refusal_of, Refuses, IsFirst, Gives, IfRefused};
 
@@ -228,6 +228,8 @@ pub fn lex(alloc: Global, source: &[u8]) -> Result<Vec<Token>, Fail>
     ensures found { IfOk result (λ v. Tokens source.now v.items) }
     // and no others,
     ensures only { IfOk result (λ v. (ts : List Token) → Tokens source.now ts → ts ≡ v.items) }
+    // each name is made of letters, digits and `_`, without a digit first,
+    ensures names { IfOk result (λ v. AllNamed v.items) }
     // and there is no fault in it.
     ensures clean { IfOk result (λ _. (r : Refusal) → FirstFault source.now r → ⊥) }
     // What is refused is the first fault in the source,

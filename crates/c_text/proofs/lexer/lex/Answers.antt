@@ -2,7 +2,7 @@ use Rattle.std.proofs.Common.{List, subst, ◌∙◌}
 use Rattle.c_text.specs.declared.source.Placed.{Placed}
 use Rattle.c_text.specs.Reading.{pieces}
 use Rattle.c_text.specs.Answers.{Gives}
-use Rattle.c_text.proofs.Cuts.{found, only, clean, refused, first, none}
+use Rattle.c_text.proofs.Cuts.{found, only, names, clean, refused, first, none}
 use Rattle.c_text.proofs.lexer.lex.Goals as goal
 
 pub returns : goal.returns
@@ -12,6 +12,7 @@ returns c =
     record {
       found = found c.args.source.now c.lex_pieces.result gives;
       only = only c.args.source.now c.lex_pieces.result gives;
+      names = names c.args.source.now c.lex_pieces.result gives;
       clean = clean c.args.source.now c.lex_pieces.result gives;
       refused = refused c.args.source.now c.lex_pieces.result gives;
       first = first c.args.source.now c.lex_pieces.result gives;
