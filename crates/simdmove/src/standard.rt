@@ -1,6 +1,8 @@
 //! Standard input as a source, standard output and standard error as sinks. What they give and take is known to the
 //! system alone, so they tell no bytes; each counts its faults.
 
+ghost use Rattle.std.specs.Prelude.{◌≡◌};
+
 use mig_io::{Failed, Sink, Source};
 use std::io::{Read, Write};
 
@@ -12,7 +14,10 @@ pub struct StandardSource<R: Read + Drop> {
 }
 
 impl<R: Read + Drop> StandardSource<R> {
-    pub fn new(reader: R) -> StandardSource<R> {
+    /// Before its first read.
+    pub fn new(reader: R) -> StandardSource<R>
+        ensures { result.faults ≡ 0 }
+    {
         StandardSource { reader, faults: 0 }
     }
 }
@@ -43,7 +48,10 @@ pub struct StandardSink<W: Write + Drop> {
 }
 
 impl<W: Write + Drop> StandardSink<W> {
-    pub fn new(writer: W) -> StandardSink<W> {
+    /// Before its first write.
+    pub fn new(writer: W) -> StandardSink<W>
+        ensures { result.faults ≡ 0 }
+    {
         StandardSink { writer, faults: 0 }
     }
 }
