@@ -1,0 +1,13 @@
+//! What the tokens of a C text have to meet before they are parsed: constants of the C subset, no excluded word, and
+//! nesting within limits.
+#![tactic(auto)]
+
+mod character;
+mod constants;
+mod integer;
+mod limits;
+mod nesting;
+mod roles;
+mod words;
+
+pub use constants::constant;
