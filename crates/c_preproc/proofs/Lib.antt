@@ -1,1 +1,4 @@
 mod Numbers
+mod Counting
+mod Weighing
+mod Judging

@@ -6,21 +6,12 @@ use Rattle.c_text.specs.declared.tokens.Dialect.TheVariants.{X86, Neon}
 use Rattle.c_text.specs.declared.tokens.Token.{Token}
 use Rattle.c_preproc.specs.declared.roles.Role.{Role}
 use Rattle.c_preproc.specs.declared.roles.Role.TheVariants.{OpensBracket, OpensBrace, ClosesBracket, ClosesBrace, Semicolon, Comma, Colon, Question, Do, While, Else, IfOrFor, Adds, Nothing}
+use Rattle.c_preproc.specs.declared.counts.Addition.{Addition}
+use Rattle.c_preproc.specs.declared.counts.Addition.TheVariants.{Word, DoWord, Waiting, Other}
 use Rattle.c_preproc.specs.declared.limits.Limits.{Limits}
 use Rattle.c_preproc.specs.Role.{role_of, is_mark, is_name}
 
 -- Contexts: the file is one, and each open bracket.
-
--- what adds one to a run
-pub data Addition : Type 0 where
-  -- one of the words `if else for while`
-  Word : Addition
-  -- the word `do`
-  DoWord : Addition
-  -- a `?` that waits for its `:`
-  Waiting : Addition
-  -- anything else, a `?` that has found its `:` too
-  Other : Addition
 
 -- one of the words `if else for while do`
 abbrev pub is_word : Addition → Bool
@@ -35,13 +26,14 @@ is_do DoWord = true
 is_do Waiting = false
 is_do Other = false
 
+-- a `?` that waits for its `:`
 abbrev pub is_waiting : Addition → Bool
 is_waiting Word = false
 is_waiting DoWord = false
 is_waiting Waiting = true
 is_waiting Other = false
 
--- a context with what has added to its run since that was last 0, the latest first: the run is the length of this list
+-- a context with what has added one to its run since that was last 0, the latest first: the run is the length of this list
 pub record Context : Type 0 where
   -- its bracket is a brace whose end ends a statement
   pub block : Bool
@@ -52,13 +44,53 @@ run_of c = length c.additions
 
 -- Rules: what each token does to the contexts that are open, the last opened first. That one is the current context.
 
+-- one more in the run
+abbrev pub added : Addition → Context → Context
+added a c = record { block = c.block; additions = a ∷ c.additions }
+
+-- the statement goes on behind its end: with `else`, or with the `while` of a `do`
+abbrev pub goes_on : Role → List Addition → Bool
+goes_on Else additions = true
+goes_on While additions = list_any is_do additions
+goes_on _ additions = false
+
+-- the end of a statement sets the run to 0, unless the statement goes on
+abbrev pub statement_ended : Role → Context → Context
+statement_ended next c = if goes_on next c.additions then c else record { block = c.block; additions = [] }
+
+-- a `,` lowers the run to its words, unless a `?` waits
+abbrev pub comma_passed : Context → Context
+comma_passed c = if list_any is_waiting c.additions then c else record { block = c.block; additions = filter is_word c.additions }
+
+-- the last `?` that waits has found its `:`. One from before the run was last 0 may wait too; it is never the last while
+-- another one waits, and no rule asks for it.
+abbrev pub answered : List Addition → List Addition
+answered [] = []
+answered (Waiting ∷ before) = Other ∷ before
+answered (a ∷ before) = a ∷ answered before
+
+abbrev pub colon_passed : Context → Context
+colon_passed c = record { block = c.block; additions = answered c.additions }
+
+-- the current context behind a token that is no bracket, by its role and that of the next token
+abbrev pub passed : Role → Role → Context → Context
+passed Semicolon next c = statement_ended next c
+passed Comma next c = comma_passed c
+passed Colon next c = colon_passed c
+passed Question next c = added Waiting c
+passed Do next c = added DoWord c
+passed While next c = added Word c
+passed Else next c = added Word c
+passed IfOrFor next c = added Word c
+passed Adds next c = added Other c
+passed _ next c = c
+
+abbrev pub on_current : (Context → Context) → List Context → List Context
+on_current f [] = []
+on_current f (c ∷ cs) = f c ∷ cs
+
 abbrev pub opened : Bool → List Context → List Context
 opened block cs = record { block = block; additions = [] } ∷ cs
-
--- one more in the current run
-abbrev pub added : Addition → List Context → List Context
-added a [] = []
-added a (c ∷ cs) = record { block = c.block; additions = a ∷ c.additions } ∷ cs
 
 -- the last context ends, if a bracket is open
 abbrev pub closed : List Context → List Context
@@ -71,49 +103,13 @@ abbrev pub is_block : List Context → Bool
 is_block [] = false
 is_block (c ∷ cs) = c.block
 
--- the statement goes on behind its end: with `else`, or with the `while` of a `do`
-abbrev pub goes_on : Role → List Addition → Bool
-goes_on Else additions = true
-goes_on While additions = list_any is_do additions
-goes_on _ additions = false
-
--- the end of a statement sets the current run to 0, unless the statement goes on
-abbrev pub statement_ended : Role → List Context → List Context
-statement_ended next [] = []
-statement_ended next (c ∷ cs) = if goes_on next c.additions then c ∷ cs else record { block = c.block; additions = [] } ∷ cs
-
--- a `,` lowers the current run to its words, unless a `?` waits
-abbrev pub comma_passed : List Context → List Context
-comma_passed [] = []
-comma_passed (c ∷ cs) = if list_any is_waiting c.additions then c ∷ cs else record { block = c.block; additions = filter is_word c.additions } ∷ cs
-
--- the last `?` that waits has found its `:`. One from before the run was last 0 may wait too; it is never the last while
--- another one waits, and no rule asks for it.
-abbrev pub answered : List Addition → List Addition
-answered [] = []
-answered (Waiting ∷ before) = Other ∷ before
-answered (a ∷ before) = a ∷ answered before
-
-abbrev pub colon_passed : List Context → List Context
-colon_passed [] = []
-colon_passed (c ∷ cs) = record { block = c.block; additions = answered c.additions } ∷ cs
-
 -- the contexts behind a token: by its role, whether a brace that it opens is a block, and the role of the next token
 abbrev pub counted : Role → Bool → Role → List Context → List Context
-counted OpensBracket block next cs = opened false (added Other cs)
+counted OpensBracket block next cs = opened false (on_current (added Other) cs)
 counted OpensBrace block next cs = opened block cs
 counted ClosesBracket block next cs = closed cs
-counted ClosesBrace block next cs = if is_block cs then statement_ended next (closed cs) else closed cs
-counted Semicolon block next cs = statement_ended next cs
-counted Comma block next cs = comma_passed cs
-counted Colon block next cs = colon_passed cs
-counted Question block next cs = added Waiting cs
-counted Do block next cs = added DoWord cs
-counted While block next cs = added Word cs
-counted Else block next cs = added Word cs
-counted IfOrFor block next cs = added Word cs
-counted Adds block next cs = added Other cs
-counted Nothing block next cs = cs
+counted ClosesBrace block next cs = if is_block cs then on_current (statement_ended next) (closed cs) else closed cs
+counted role block next cs = on_current (passed role next) cs
 
 -- Prefixes of the text. They stand with their latest token first.
 

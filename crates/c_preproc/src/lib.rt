@@ -4,10 +4,13 @@
 
 mod character;
 mod constants;
+mod counts;
 mod integer;
 mod limits;
 mod nesting;
 mod roles;
+mod scanning;
 mod words;
 
 pub use constants::constant;
+pub use scanning::scan;

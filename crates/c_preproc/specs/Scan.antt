@@ -1,0 +1,42 @@
+-- What the tokens of a text have to meet before they are parsed, and which token is refused.
+use Rattle.std.specs.Prelude.{◌≡◌, ℕ, List, [], ◌∷◌, ◌++◌, reverse, take, not, if◌then◌else◌, Option, Some, None}
+use Rattle.c_text.specs.declared.tokens.Dialect.{Dialect}
+use Rattle.c_text.specs.declared.tokens.Token.{Token}
+use Rattle.c_text.specs.declared.refusals.Refusal.{Refusal}
+use Rattle.c_text.specs.declared.refusals.Fail.{Fail}
+use Rattle.c_text.specs.declared.refusals.Fail.TheVariants.{Refused, Memory}
+use Rattle.c_preproc.specs.Constant.{is_c_token}
+use Rattle.c_preproc.specs.ExcludedWord.{is_excluded}
+use Rattle.c_preproc.specs.Role.{next_role}
+use Rattle.c_preproc.specs.Nesting.{contexts_behind, is_too_deep, limits_of}
+
+-- the refusal of a token, whose detail is its text: at most the first 255 bytes
+abbrev pub refusal_of : ℕ → Token → Refusal
+refusal_of number t = record { number = number; place = t.place; detail = take 255 t.text }
+
+-- the refusal of a token behind others (the latest first) and in front of others: it is no C token, an excluded word,
+-- or nesting or weight is above its limit once it has been counted
+unfoldable pub refusal_at : Dialect → List Token → Token → List Token → Option Refusal
+refusal_at dialect before t after =
+    if not (is_c_token t.kind t.text) then Some (refusal_of 4 t)
+    else if is_excluded dialect t.kind t.text then Some (refusal_of 18 t)
+    else if is_too_deep (limits_of dialect) (contexts_behind (t ∷ before) (next_role after)) then Some (refusal_of 19 t)
+    else None
+
+-- the refusal of the first of these tokens that has one, where they stand behind others
+abbrev pub first_refusal_behind : Dialect → List Token → List Token → Option Refusal
+first_refusal_behind dialect before [] = None
+first_refusal_behind dialect before (t ∷ after) = earlier (refusal_at dialect before t after) (first_refusal_behind dialect (t ∷ before) after)
+  where
+    earlier : Option Refusal → Option Refusal → Option Refusal
+    earlier None later = later
+    earlier (Some r) later = Some r
+
+-- the refusal of the first token of a text that has one
+abbrev pub first_refusal : Dialect → List Token → Option Refusal
+first_refusal dialect tokens = first_refusal_behind dialect [] tokens
+
+-- what holds of a refusal; nothing where memory ran out
+abbrev pub IfRefused : Fail → (Refusal → Type 0) → Type 0
+IfRefused (Refused r) P = P r
+IfRefused Memory P = Unit {0}

@@ -1,0 +1,102 @@
+//! The scan of a text's tokens.
+
+ghost use Rattle.std.specs.Prelude.{◌≡◌, ◌^◌, ◌<◌, List, ◌∷◌, ◌&&◌, take, reverse, codes, OnOk, IfErr, None, Some};
+ghost use Rattle.c_preproc.specs.Role.{role_of, next_role, is_mark, is_name};
+ghost use Rattle.c_preproc.specs.Nesting.{opens_block, ends_with_equals, ends_with_pair, contexts_behind};
+ghost use Rattle.c_preproc.specs.Counts.{Shows};
+ghost use Rattle.c_preproc.specs.Scan.{refusal_of, refusal_at, first_refusal, IfRefused};
+
+use crate::constants::is_c_token;
+use crate::limits::dialect_limits;
+use crate::nesting::Nesting;
+use crate::roles::{is_mark, is_name, next_role, token_role};
+use crate::words::is_excluded;
+use c_text::{Dialect, Fail, Refusal, Text, Token};
+use std::alloc::Global;
+
+// At most the first 255 bytes.
+fn shortened(bytes: &[u8]) -> &[u8]
+    ensures { result.now ≡ take 255 bytes.now }
+{
+    if bytes.len() > 255 { &bytes[..255] } else { bytes }
+}
+
+fn refuse(alloc: Global, number: u8, token: &Token) -> Fail
+    ensures { IfRefused result (λ r. r ≡ refusal_of number token.now) }
+{
+    match Text::new(alloc, shortened(token.text.bytes())) {
+        Ok(detail) => Fail::Refused(Refusal { number, place: token.place, detail }),
+        Err(_) => Fail::Memory,
+    }
+}
+
+fn ends_with_equals(before: &[Token]) -> bool
+    ensures { result ≡ ends_with_equals (reverse before.now) }
+{
+    match before.split_last() {
+        Some((last, _)) => is_mark(last, b"="),
+        None => false,
+    }
+}
+
+fn is_pair(first: &Token, name: &Token, last: &Token) -> bool
+    ensures { result ≡ (is_mark (codes "(") first.now && is_name (codes "uint8x16x2_t") name.now && is_mark (codes ")") last.now) }
+{
+    is_mark(first, b"(") && is_name(name, b"uint8x16x2_t") && is_mark(last, b")")
+}
+
+fn ends_with_pair(before: &[Token]) -> bool
+    ensures { result ≡ ends_with_pair (reverse before.now) }
+{
+    let Some((last, before)) = before.split_last() else {
+        return false;
+    };
+    let Some((name, before)) = before.split_last() else {
+        return false;
+    };
+    let Some((first, _)) = before.split_last() else {
+        return false;
+    };
+    is_pair(first, name, last)
+}
+
+fn opens_block(before: &[Token]) -> bool
+    ensures { result ≡ opens_block (reverse before.now) }
+{
+    !(ends_with_equals(before) || ends_with_pair(before))
+}
+
+fn judge(alloc: Global, dialect: Dialect, nesting: &mut Nesting, before: &[Token], token: &Token, after: &[Token]) -> Result<(), Fail>
+    requires shown { Shows nesting.old.current nesting.old.outer.items (contexts_behind (reverse before.now) (role_of token.now)) }
+    requires light { nesting.old.weight < 2 ^ 32 }
+    ensures ok { OnOk result (refusal_at dialect (reverse before.now) token.now after.now ≡ None) }
+    ensures refused { IfErr result (λ e. IfRefused e
+        (λ r. refusal_at dialect (reverse before.now) token.now after.now ≡ Some r)) }
+    ensures shown { OnOk result (Shows nesting.new.current nesting.new.outer.items
+        (contexts_behind (token.now ∷ reverse before.now) (next_role after.now))) }
+    ensures light { OnOk result (nesting.new.weight < 2 ^ 32) }
+{
+    if !is_c_token(token) {
+        return Err(refuse(alloc, 4, token));
+    }
+    if is_excluded(dialect, token) {
+        return Err(refuse(alloc, 18, token));
+    }
+    nesting.count(token_role(token), opens_block(before), next_role(after))?;
+    if nesting.is_too_deep(dialect_limits(dialect)) {
+        return Err(refuse(alloc, 19, token));
+    }
+    Ok(())
+}
+
+/// Whether the tokens of a text may be parsed.
+pub fn scan(alloc: Global, tokens: &[Token], dialect: Dialect) -> Result<(), Fail>
+    ensures ok { OnOk result (first_refusal dialect tokens.now ≡ None) }
+    ensures refused { IfErr result (λ e. IfRefused e (λ r. first_refusal dialect tokens.now ≡ Some r)) }
+{
+    let mut nesting = Nesting::new(alloc);
+    for (i, token) in tokens.iter().enumerate() {
+        judge(alloc, dialect, &mut nesting, &tokens[..i], token, &tokens[i + 1..])?;
+    }
+    Ok(())
+}
