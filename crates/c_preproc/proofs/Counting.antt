@@ -1,7 +1,6 @@
 -- What is counted of a list of additions.
-use Rattle.std.proofs.Common.{◌≡◌, ℕ, zero, suc, ◌+◌, ◌-◌, ◌<◌, ◌≤◌, List, [], ◌∷◌, length, filter, Bool, true, false, refl, sym, ◌∙◌, ap, subst, arith}
+use Rattle.std.proofs.Common.{◌≡◌, suc, ◌-◌, ◌<◌, List, [], ◌∷◌, length, filter, Bool, true, false, refl, sym, ◌∙◌, ap, subst, arith}
 use Rattle.std.specs.List.{list_any}
-use Rattle.std.proofs.lemmas.Bool.Decides.{nat_tests}
 use Rattle.c_preproc.specs.declared.counts.Addition.{Addition}
 use Rattle.c_preproc.specs.declared.counts.Addition.TheVariants.{Word, DoWord, Waiting, Other}
 use Rattle.c_preproc.specs.declared.counts.Counts.{Counts}

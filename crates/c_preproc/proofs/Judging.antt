@@ -1,5 +1,5 @@
 -- What is refused at a token, and at the first one.
-use Rattle.std.proofs.Common.{◌≡◌, ℕ, suc, ◌+◌, ◌<◌, ◌≤◌, List, [], ◌∷◌, ◌++◌, length, take, drop, reverse, get_or, Option, Some, None, Bool, true, false, not, refl, sym, ◌∙◌, ap, subst, arith, drop-cons}
+use Rattle.std.proofs.Common.{◌≡◌, ℕ, ◌<◌, ◌≤◌, List, [], ◌∷◌, length, take, Option, Some, None, Bool, true, false, refl, sym, ◌∙◌, ap, subst, arith}
 use Rattle.std.proofs.lemmas.Grind.{common_steps}
 use Rattle.c_text.specs.declared.tokens.Dialect.{Dialect}
 use Rattle.c_text.specs.declared.tokens.Token.{Token}
@@ -14,7 +14,7 @@ use Rattle.c_preproc.specs.declared.counts.Counts.{Counts}
 use Rattle.c_preproc.specs.declared.limits.Limits.{Limits}
 use Rattle.c_preproc.specs.Counts.{Shows}
 use Rattle.c_preproc.specs.Nesting.{Context, contexts_behind, counted, opens_block, file, is_too_deep, limits_of}
-use Rattle.c_preproc.specs.Scan.{refusal_of, refusal_at, first_refusal, first_refusal_behind, IfRefused}
+use Rattle.c_preproc.specs.Scan.{refusal_of, refusal_at, IfRefused}
 
 -- a refusal that was made for an answer
 pub refused_as : (e : Fail) (answer : Option Refusal) (r : Refusal) → IfRefused e (λ x. x ≡ r) → answer ≡ Some r → IfRefused e (λ x. answer ≡ Some x)
@@ -60,7 +60,7 @@ pub behind_shown : (current : Counts) (outer : List Counts) (t : Token) (before 
     Shows current outer (counted role block next (contexts_behind before (role_of t))) → Shows current outer (contexts_behind (t ∷ before) (next_role after))
 behind_shown current outer t before after role next block is opens follows shown =
     let same : counted role block next (contexts_behind before (role_of t)) ≡ contexts_behind (t ∷ before) (next_role after) =
-      rw (is, opens, follows) (sym (behind_one t before (next_role after))) in
+    rw (is, opens, follows) (sym (behind_one t before (next_role after))) in
     subst (λ (cs : List Context). Shows current outer cs) same shown
 
 -- the test for depth, of contexts that are shown

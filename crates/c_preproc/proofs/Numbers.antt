@@ -1,5 +1,5 @@
 -- Numbers written by digits.
-use Rattle.std.proofs.Common.{◌≡◌, ℕ, zero, suc, ◌+◌, ◌-◌, ◌*◌, ◌^◌, ◌<◌, ◌≤◌, List, [], ◌∷◌, length, drop, refl, sym, ◌∙◌, ap, arith, drop-cons, get_or}
+use Rattle.std.proofs.Common.{◌≡◌, ℕ, suc, ◌+◌, ◌*◌, ◌^◌, ◌<◌, ◌≤◌, List, ◌∷◌, length, drop, sym, ◌∙◌, ap, arith, drop-cons, get_or}
 use Rattle.std.proofs.Math.Nat.{pow-succ', one-le-pow, mul-le-mul_left, add-mul, mul_assoc, add_assoc}
 use Rattle.std.proofs.lemmas.List.Sums.{prefix_len-le-length}
 use Rattle.c_preproc.specs.declared.integer.Base.{Base}

@@ -1,5 +1,5 @@
 -- The open brackets and the weight of contexts, by their counts.
-use Rattle.std.proofs.Common.{◌≡◌, ℕ, suc, ◌+◌, ◌-◌, ◌<◌, ◌≤◌, List, [], ◌∷◌, ◌++◌, length, map, reverse, sum_by, filter, Bool, true, false, refl, sym, ◌∙◌, ap, subst, arith, nat_lt}
+use Rattle.std.proofs.Common.{◌≡◌, ℕ, suc, ◌+◌, ◌<◌, ◌≤◌, List, [], ◌∷◌, ◌++◌, length, map, reverse, sum_by, filter, false, refl, sym, ◌∙◌, ap, subst, arith, nat_lt}
 use Rattle.std.proofs.lemmas.List.{reverse-append, length-reverse, length-map}
 use Rattle.std.proofs.lemmas.List.Sums.{sum_by-cons, sum_by_push}
 use Rattle.c_preproc.specs.declared.counts.Addition.{Addition}
@@ -33,7 +33,7 @@ pub weight_shown : (current : Counts) (outer : List Counts) (cs : List Context) 
 weight_shown current outer cs shown =
     let brackets = brackets_shown current outer cs shown in
     let sums : sum_by run_of cs ≡ current.run + sum_by (λ (c : Counts). c.run) outer =
-      sym (runs cs) ∙ ap (sum_by (λ (c : Counts). c.run)) shown ∙ sum_by-cons (λ (c : Counts). c.run) current (reverse outer) ∙ ap (λ n. current.run + n) (reversed outer) in
+    sym (runs cs) ∙ ap (sum_by (λ (c : Counts). c.run)) shown ∙ sum_by-cons (λ (c : Counts). c.run) current (reverse outer) ∙ ap (λ n. current.run + n) (reversed outer) in
     omega arith
 
 words_within : (xs : List Addition) → length (filter is_word xs) ≤ length xs
@@ -61,7 +61,7 @@ shown_within current outer (c ∷ cs) shown small =
     record {
       run = small;
       words = subst (λ (n : Counts). n.words ≤ n.run) is (words_within c.additions);
-      waiting = subst (λ (n : Counts). n.waiting ≤ n.run) is (waiting_within c.additions)
+      waiting = subst (λ (n : Counts). n.waiting ≤ n.run) is (waiting_within c.additions);
     }
 
 pub too_deep_by_weight : (limits : Limits) (cs : List Context) (brackets weight : ℕ) → open_brackets cs ≡ brackets → weight_of cs ≡ weight → brackets ≤ limits.brackets →

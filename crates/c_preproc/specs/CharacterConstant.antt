@@ -1,5 +1,5 @@
 -- The character constants of C and their values (C11 6.4.4.4), without an encoding prefix: one character or one escape.
-use Rattle.std.specs.Prelude.{◌≡◌, ℕ, ◌-◌, List, [], ◌∷◌, length, drop, take, nat_eq, nat_le, nat_lt, ◌==◌, ◌&&◌, ◌||◌, not, Bool, true, false, if◌then◌else◌, Option, Some, None, option_map, option_and_then, ℤ, pos, ◌-ℤ◌, slice_index}
+use Rattle.std.specs.Prelude.{ℕ, ◌-◌, List, [], ◌∷◌, length, drop, take, nat_eq, nat_le, nat_lt, ◌==◌, ◌&&◌, ◌||◌, not, Bool, if◌then◌else◌, Option, Some, None, option_map, option_and_then, ℤ, pos, ◌-ℤ◌, slice_index}
 use Rattle.std.specs.List.{list_all}
 use Rattle.std.specs.Map.{lookup}
 use Rattle.lane_core.specs.declared.number.IntType.{IntType}

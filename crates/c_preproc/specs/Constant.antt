@@ -3,7 +3,6 @@ use Rattle.std.specs.Prelude.{ℕ, List, Option, None, ℤ, Bool, false, true, i
 use Rattle.lane_core.specs.declared.number.IntType.{IntType}
 use Rattle.c_text.specs.declared.tokens.TokenKind.{TokenKind}
 use Rattle.c_text.specs.declared.tokens.TokenKind.TheVariants.{Name, Number, Quote, Str, Mark, Lone}
-use Rattle.c_text.specs.declared.tokens.Token.{Token}
 use Rattle.c_preproc.specs.IntegerConstant.{integer_constant}
 use Rattle.c_preproc.specs.CharacterConstant.{character_constant}
 

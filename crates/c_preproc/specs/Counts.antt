@@ -10,7 +10,7 @@ counts_of c = record {
   run = length c.additions;
   words = length (filter is_word c.additions);
   has_do = list_any is_do c.additions;
-  waiting = length (filter is_waiting c.additions)
+  waiting = length (filter is_waiting c.additions);
 }
 
 -- a run is far below the greatest `usize`, and no part of it is longer

@@ -1,5 +1,5 @@
 -- The words that stand in no unit of the C subset.
-use Rattle.std.specs.Prelude.{ℕ, List, [], ◌∷◌, ◌++◌, codes, bytes_eq, Bool, true, false}
+use Rattle.std.specs.Prelude.{ℕ, List, [], ◌∷◌, ◌++◌, codes, bytes_eq, Bool, false}
 use Rattle.std.specs.List.{list_any}
 use Rattle.c_text.specs.declared.tokens.Dialect.{Dialect}
 use Rattle.c_text.specs.declared.tokens.Dialect.TheVariants.{X86, Neon}

@@ -1,11 +1,11 @@
 -- Nesting and weight of a text, measured on its tokens.
-use Rattle.std.specs.Prelude.{◌≡◌, ℕ, ◌+◌, ◌-◌, List, [], ◌∷◌, length, filter, sum_by, codes, nat_lt, ◌&&◌, ◌||◌, not, Bool, true, false, if◌then◌else◌}
+use Rattle.std.specs.Prelude.{ℕ, ◌+◌, ◌-◌, List, [], ◌∷◌, length, filter, sum_by, codes, nat_lt, ◌&&◌, ◌||◌, not, Bool, true, false, if◌then◌else◌}
 use Rattle.std.specs.List.{list_any}
 use Rattle.c_text.specs.declared.tokens.Dialect.{Dialect}
 use Rattle.c_text.specs.declared.tokens.Dialect.TheVariants.{X86, Neon}
 use Rattle.c_text.specs.declared.tokens.Token.{Token}
 use Rattle.c_preproc.specs.declared.roles.Role.{Role}
-use Rattle.c_preproc.specs.declared.roles.Role.TheVariants.{OpensBracket, OpensBrace, ClosesBracket, ClosesBrace, Semicolon, Comma, Colon, Question, Do, While, Else, IfOrFor, Adds, Nothing}
+use Rattle.c_preproc.specs.declared.roles.Role.TheVariants.{OpensBracket, OpensBrace, ClosesBracket, ClosesBrace, Semicolon, Comma, Colon, Question, Do, While, Else, IfOrFor, Adds}
 use Rattle.c_preproc.specs.declared.counts.Addition.{Addition}
 use Rattle.c_preproc.specs.declared.counts.Addition.TheVariants.{Word, DoWord, Waiting, Other}
 use Rattle.c_preproc.specs.declared.limits.Limits.{Limits}

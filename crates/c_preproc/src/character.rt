@@ -85,7 +85,11 @@ fn between_marks(text: &[u8]) -> Option<&[u8]>
 fn signed_byte(byte: u8) -> i128
     ensures { result ≡ signed_byte byte }
 {
-    if byte < 128 { i128::from(byte) } else { i128::from(byte) - 256 }
+    if byte < 128 {
+        i128::from(byte)
+    } else {
+        i128::from(byte) - 256
+    }
 }
 
 /// The number that a character constant is, with its type.
@@ -93,5 +97,8 @@ pub fn character_constant(text: &[u8]) -> Option<Num>
     ensures { option_map (λ n. (n.ty, n.value)) result ≡ character_constant text.now }
 {
     let value = member_value(between_marks(text)?)?;
-    Some(Num { ty: IntType::Int, value: signed_byte(value) })
+    Some(Num {
+        ty: IntType::Int,
+        value: signed_byte(value),
+    })
 }

@@ -38,7 +38,13 @@ impl Counts {
     pub fn new(block: bool) -> Counts
         ensures { result ≡ counts_of (record { block = block; additions = [] }) }
     {
-        Counts { block, run: 0, words: 0, has_do: false, waiting: 0 }
+        Counts {
+            block,
+            run: 0,
+            words: 0,
+            has_do: false,
+            waiting: 0,
+        }
     }
 
     /// One more in the run.
@@ -49,9 +55,22 @@ impl Counts {
     {
         let run = self.run + 1;
         match addition {
-            Addition::Word => Counts { run, words: self.words + 1, ..self },
-            Addition::DoWord => Counts { run, words: self.words + 1, has_do: true, ..self },
-            Addition::Waiting => Counts { run, waiting: self.waiting + 1, ..self },
+            Addition::Word => Counts {
+                run,
+                words: self.words + 1,
+                ..self
+            },
+            Addition::DoWord => Counts {
+                run,
+                words: self.words + 1,
+                has_do: true,
+                ..self
+            },
+            Addition::Waiting => Counts {
+                run,
+                waiting: self.waiting + 1,
+                ..self
+            },
             Addition::Other => Counts { run, ..self },
         }
     }
@@ -73,14 +92,24 @@ impl Counts {
         ensures shown { (c : Context) → self ≡ counts_of c → result ≡ counts_of (comma_passed c) }
         ensures lowered { result.run ≤ self.run }
     {
-        if self.waiting > 0 { self } else { Counts { run: self.words, ..self } }
+        if self.waiting > 0 {
+            self
+        } else {
+            Counts {
+                run: self.words,
+                ..self
+            }
+        }
     }
 
     fn colon_passed(self) -> Counts
         ensures shown { (c : Context) → self ≡ counts_of c → result ≡ counts_of (colon_passed c) }
         ensures kept { result.run ≡ self.run }
     {
-        Counts { waiting: self.waiting.saturating_sub(1), ..self }
+        Counts {
+            waiting: self.waiting.saturating_sub(1),
+            ..self
+        }
     }
 
     /// Behind a token that is no bracket, where the next token has this role.

@@ -45,7 +45,9 @@ pub fn is_digit(base: Base, byte: u8) -> bool
         Base::Octal => byte >= b'0' && byte <= b'7',
         Base::Decimal => byte >= b'0' && byte <= b'9',
         Base::Hexadecimal => {
-            byte >= b'0' && byte <= b'9' || byte >= b'A' && byte <= b'F' || byte >= b'a' && byte <= b'f'
+            byte >= b'0' && byte <= b'9'
+                || byte >= b'A' && byte <= b'F'
+                || byte >= b'a' && byte <= b'f'
         }
     }
 }
@@ -93,7 +95,9 @@ fn with_digit(base: Base, number: u64, digit: u8) -> Option<u64>
         (2 ^ 64 ≤ number * radix_of base + digit_value digit)
         (λ n. n ≡ number * radix_of base + digit_value digit) }
 {
-    number.checked_mul(radix_of(base))?.checked_add(u64::from(digit_value(digit)))
+    number
+        .checked_mul(radix_of(base))?
+        .checked_add(u64::from(digit_value(digit)))
 }
 
 /// The number that these digits write, if it has at most 64 bits.
@@ -125,7 +129,9 @@ fn digit_count(base: Base, body: &[u8]) -> usize
     ensures value { result ≡ prefix_len (is_digit base) body.now }
     ensures within { result ≤ length body.now }
 {
-    body.iter().take_while(|byte| is_digit(base, **byte)).count()
+    body.iter()
+        .take_while(|byte| is_digit(base, **byte))
+        .count()
 }
 
 fn types_of(base: Base, suffix: Suffix) -> &'static [IntType]
@@ -134,11 +140,23 @@ fn types_of(base: Base, suffix: Suffix) -> &'static [IntType]
     match (suffix, base) {
         (Suffix::Plain, Base::Decimal) => &[IntType::Int, IntType::Long, IntType::LLong],
         (Suffix::Plain, _) => {
-            &[IntType::Int, IntType::UInt, IntType::Long, IntType::ULong, IntType::LLong, IntType::ULLong]
+            &[
+                IntType::Int,
+                IntType::UInt,
+                IntType::Long,
+                IntType::ULong,
+                IntType::LLong,
+                IntType::ULLong,
+            ]
         }
         (Suffix::U, _) => &[IntType::UInt, IntType::ULong, IntType::ULLong],
         (Suffix::L, Base::Decimal) => &[IntType::Long, IntType::LLong],
-        (Suffix::L, _) => &[IntType::Long, IntType::ULong, IntType::LLong, IntType::ULLong],
+        (Suffix::L, _) => &[
+            IntType::Long,
+            IntType::ULong,
+            IntType::LLong,
+            IntType::ULLong,
+        ],
         (Suffix::Ul, _) => &[IntType::ULong, IntType::ULLong],
         (Suffix::Ll, Base::Decimal) => &[IntType::LLong],
         (Suffix::Ll, _) => &[IntType::LLong, IntType::ULLong],
@@ -183,5 +201,8 @@ pub fn integer_constant(text: &[u8]) -> Option<Num>
     let types = types_of(base, suffix_of(rest)?);
     let number = number(base, digits)?;
     let ty = first_type(number, types)?;
-    Some(Num { ty, value: i128::from(number) })
+    Some(Num {
+        ty,
+        value: i128::from(number),
+    })
 }

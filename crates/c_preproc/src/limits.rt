@@ -17,7 +17,13 @@ pub fn dialect_limits(dialect: Dialect) -> Limits
     ensures { result ≡ limits_of dialect }
 {
     match dialect {
-        Dialect::X86 => Limits { brackets: 64, weight: 255 },
-        Dialect::Neon => Limits { brackets: 256, weight: 1023 },
+        Dialect::X86 => Limits {
+            brackets: 64,
+            weight: 255,
+        },
+        Dialect::Neon => Limits {
+            brackets: 256,
+            weight: 1023,
+        },
     }
 }

@@ -27,7 +27,11 @@ impl Nesting {
         ensures shown { Shows result.current result.outer.items file }
         ensures light { result.weight ≡ 0 }
     {
-        Nesting { current: Counts::new(false), outer: Vec::new(alloc), weight: 0 }
+        Nesting {
+            current: Counts::new(false),
+            outer: Vec::new(alloc),
+            weight: 0,
+        }
     }
 
     fn set_current(&mut self, counts: Counts)

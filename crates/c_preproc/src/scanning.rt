@@ -18,14 +18,22 @@ use std::alloc::Global;
 fn shortened(bytes: &[u8]) -> &[u8]
     ensures { result.now ≡ take 255 bytes.now }
 {
-    if bytes.len() > 255 { &bytes[..255] } else { bytes }
+    if bytes.len() > 255 {
+        &bytes[..255]
+    } else {
+        bytes
+    }
 }
 
 fn refuse(alloc: Global, number: u8, token: &Token) -> Fail
     ensures { IfRefused result (λ r. r ≡ refusal_of number token.now) }
 {
     match Text::new(alloc, shortened(token.text.bytes())) {
-        Ok(detail) => Fail::Refused(Refusal { number, place: token.place, detail }),
+        Ok(detail) => Fail::Refused(Refusal {
+            number,
+            place: token.place,
+            detail,
+        }),
         Err(_) => Fail::Memory,
     }
 }
@@ -66,7 +74,14 @@ fn opens_block(before: &[Token]) -> bool
     !(ends_with_equals(before) || ends_with_pair(before))
 }
 
-fn judge(alloc: Global, dialect: Dialect, nesting: &mut Nesting, before: &[Token], token: &Token, after: &[Token]) -> Result<(), Fail>
+fn judge(
+    alloc: Global,
+    dialect: Dialect,
+    nesting: &mut Nesting,
+    before: &[Token],
+    token: &Token,
+    after: &[Token],
+) -> Result<(), Fail>
     requires shown { Shows nesting.old.current nesting.old.outer.items (contexts_behind (reverse before.now) (role_of token.now)) }
     requires light { nesting.old.weight < 2 ^ 32 }
     ensures ok { OnOk result (refusal_at dialect (reverse before.now) token.now after.now ≡ None) }
@@ -96,7 +111,14 @@ pub fn scan(alloc: Global, tokens: &[Token], dialect: Dialect) -> Result<(), Fai
 {
     let mut nesting = Nesting::new(alloc);
     for (i, token) in tokens.iter().enumerate() {
-        judge(alloc, dialect, &mut nesting, &tokens[..i], token, &tokens[i + 1..])?;
+        judge(
+            alloc,
+            dialect,
+            &mut nesting,
+            &tokens[..i],
+            token,
+            &tokens[i + 1..],
+        )?;
     }
     Ok(())
 }

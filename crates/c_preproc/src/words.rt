@@ -7,12 +7,37 @@ ghost use Rattle.c_preproc.specs.ExcludedWord.{excluded_in_both, excluded_vector
 use c_text::{Dialect, Token, TokenKind};
 
 static EXCLUDED_IN_BOTH: [&[u8]; 26] = [
-    b"asm", b"__asm", b"__asm__", b"auto", b"case", b"default", b"double", b"enum", b"extern", b"float", b"goto",
-    b"register", b"struct", b"switch", b"typedef", b"union", b"volatile", b"_Alignof", b"_Atomic", b"_Complex",
-    b"_Generic", b"_Imaginary", b"_Noreturn", b"_Static_assert", b"_Thread_local", b"__int128",
+    b"asm",
+    b"__asm",
+    b"__asm__",
+    b"auto",
+    b"case",
+    b"default",
+    b"double",
+    b"enum",
+    b"extern",
+    b"float",
+    b"goto",
+    b"register",
+    b"struct",
+    b"switch",
+    b"typedef",
+    b"union",
+    b"volatile",
+    b"_Alignof",
+    b"_Atomic",
+    b"_Complex",
+    b"_Generic",
+    b"_Imaginary",
+    b"_Noreturn",
+    b"_Static_assert",
+    b"_Thread_local",
+    b"__int128",
 ];
 
-static EXCLUDED_VECTORS: [&[u8]; 6] = [b"__m64", b"__m128", b"__m128d", b"__m256", b"__m256d", b"__m512i"];
+static EXCLUDED_VECTORS: [&[u8]; 6] = [
+    b"__m64", b"__m128", b"__m128d", b"__m256", b"__m256d", b"__m512i",
+];
 
 fn is_among(word: &[u8], words: &[&[u8]]) -> bool
     ensures { result ≡ list_any (λ w. bytes_eq word.now w.now) words.now }

@@ -1,4 +1,4 @@
-use Rattle.std.proofs.Common.{◌≡◌, List, ◌∷◌, reverse, true, false, arith, rules, sym, ◌∙◌}
+use Rattle.std.proofs.Common.{◌≡◌, reverse, true, false, arith, rules}
 use Rattle.c_preproc.specs.Constant.{is_c_token}
 use Rattle.c_preproc.specs.ExcludedWord.{is_excluded}
 use Rattle.c_preproc.specs.Scan.{refusal_of}

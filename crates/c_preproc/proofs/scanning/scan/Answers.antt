@@ -1,6 +1,4 @@
-use Rattle.std.proofs.Common.{refl, arith, subst, sym, List}
-use Rattle.c_preproc.specs.Nesting.{Context}
-use Rattle.c_preproc.specs.Counts.{Shows}
+use Rattle.std.proofs.Common.{refl, arith}
 use Rattle.c_preproc.specs.Role.{next_role}
 use Rattle.c_preproc.proofs.Judging.{behind_none}
 use Rattle.c_preproc.proofs.scanning.scan.Goals as goal
@@ -9,5 +7,5 @@ pub loop-i-init : goal.loop-i-init
 loop-i-init c = record {
   shown = rw (behind_none (next_role c.args.tokens.now)) c.new-nesting.ensures.shown;
   light = omega (arith, c.new-nesting.ensures.light);
-  passed = refl
+  passed = refl;
 }

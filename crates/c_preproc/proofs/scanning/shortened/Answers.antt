@@ -1,4 +1,3 @@
-use Rattle.std.proofs.Common.{arith}
 use Rattle.c_preproc.proofs.Judging.{full_front, whole_front}
 use Rattle.c_preproc.proofs.scanning.shortened.Goals as goal
 

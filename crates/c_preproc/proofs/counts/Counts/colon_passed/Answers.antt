@@ -1,5 +1,4 @@
-use Rattle.std.proofs.Common.{ℕ, sym, subst, ◌≡◌, ◌∙◌, ap}
-use Rattle.c_preproc.specs.declared.counts.Counts.{Counts}
+use Rattle.std.proofs.Common.{ℕ, ◌∙◌, ap}
 use Rattle.c_preproc.proofs.Counting.{colon_answers}
 use Rattle.c_preproc.proofs.counts.Counts.colon_passed.Goals as goal
 
