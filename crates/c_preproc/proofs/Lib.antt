@@ -2,3 +2,4 @@ mod Numbers
 mod Counting
 mod Weighing
 mod Judging
+mod Firsts

@@ -1,5 +1,5 @@
 -- What the tokens of a text have to meet before they are parsed, and which token is refused.
-use Rattle.std.specs.Prelude.{ℕ, List, [], ◌∷◌, take, not, if◌then◌else◌, Option, Some, None}
+use Rattle.std.specs.Prelude.{◌≡◌, ℕ, List, [], ◌∷◌, ◌++◌, reverse, take, not, if◌then◌else◌, Option, Some, None}
 use Rattle.c_text.specs.declared.tokens.Dialect.{Dialect}
 use Rattle.c_text.specs.declared.tokens.Token.{Token}
 use Rattle.c_text.specs.declared.refusals.Refusal.{Refusal}
@@ -23,18 +23,34 @@ refusal_at dialect before t after =
     else if is_too_deep (limits_of dialect) (contexts_behind (t ∷ before) (next_role after)) then Some (refusal_of 19 t)
     else None
 
+-- the first of two refusals that is there
+abbrev pub earlier : Option Refusal → Option Refusal → Option Refusal
+earlier None later = later
+earlier (Some r) later = Some r
+
 -- the refusal of the first of these tokens that has one, where they stand behind others
 abbrev pub first_refusal_behind : Dialect → List Token → List Token → Option Refusal
 first_refusal_behind dialect before [] = None
 first_refusal_behind dialect before (t ∷ after) = earlier (refusal_at dialect before t after) (first_refusal_behind dialect (t ∷ before) after)
-  where
-    earlier : Option Refusal → Option Refusal → Option Refusal
-    earlier None later = later
-    earlier (Some r) later = Some r
 
 -- the refusal of the first token of a text that has one
-abbrev pub first_refusal : Dialect → List Token → Option Refusal
+unfoldable pub first_refusal : Dialect → List Token → Option Refusal
 first_refusal dialect tokens = first_refusal_behind dialect [] tokens
+
+-- The same, token by token.
+
+-- every token of the text passes at its place
+abbrev pub Passes : Dialect → List Token → Type 0
+Passes dialect tokens = (front after : List Token) (t : Token) → tokens ≡ front ++ t ∷ after → refusal_at dialect (reverse front) t after ≡ None
+
+-- a token of the text is refused so at its place, and every earlier one passes
+pub record IsRefused (dialect : Dialect) (tokens : List Token) (r : Refusal) : Type 0 where
+  pub front : List Token
+  pub token : Token
+  pub after : List Token
+  pub cut : tokens ≡ front ++ token ∷ after
+  pub refused : refusal_at dialect (reverse front) token after ≡ Some r
+  pub earlier : (others rest : List Token) (t : Token) → front ≡ others ++ t ∷ rest → refusal_at dialect (reverse others) t (rest ++ token ∷ after) ≡ None
 
 -- what holds of a refusal; nothing where memory ran out
 abbrev pub IfRefused : Fail → (Refusal → Type 0) → Type 0

@@ -4,7 +4,7 @@ ghost use Rattle.std.specs.Prelude.{◌≡◌, ◌^◌, ◌<◌, List, ◌∷◌
 ghost use Rattle.c_preproc.specs.Role.{role_of, next_role, is_mark, is_name};
 ghost use Rattle.c_preproc.specs.Nesting.{opens_block, ends_with_equals, ends_with_pair, contexts_behind};
 ghost use Rattle.c_preproc.specs.Counts.{Shows};
-ghost use Rattle.c_preproc.specs.Scan.{refusal_of, refusal_at, first_refusal, IfRefused};
+ghost use Rattle.c_preproc.specs.Scan.{refusal_of, refusal_at, first_refusal, Passes, IsRefused, IfRefused};
 
 use crate::constants::is_c_token;
 use crate::limits::dialect_limits;
@@ -104,21 +104,30 @@ fn judge(
     Ok(())
 }
 
-/// Whether the tokens of a text may be parsed.
-pub fn scan(alloc: Global, tokens: &[Token], dialect: Dialect) -> Result<(), Fail>
+#[tactic(auto, unfolding(crate::specs::Scan::first_refusal))]
+fn scan_all(alloc: Global, tokens: &[Token], dialect: Dialect) -> Result<(), Fail>
     ensures ok { OnOk result (first_refusal dialect tokens.now ≡ None) }
     ensures refused { IfErr result (λ e. IfRefused e (λ r. first_refusal dialect tokens.now ≡ Some r)) }
 {
     let mut nesting = Nesting::new(alloc);
     for (i, token) in tokens.iter().enumerate() {
-        judge(
-            alloc,
-            dialect,
-            &mut nesting,
-            &tokens[..i],
-            token,
-            &tokens[i + 1..],
-        )?;
+        judge(alloc, dialect, &mut nesting, &tokens[..i], token, &tokens[i + 1..])?;
     }
     Ok(())
+}
+
+/// Whether the tokens of a text may be parsed: every number and character constant is one of the C subset and no byte is
+/// a token by itself (else 4), no excluded word stands (else 18), and nesting and weight are within the dialect's limits
+/// (else 19). The first token that breaks a rule is refused, with its place and at most 255 bytes of it. Memory may run
+/// out.
+#[tactic(auto, using(crate::proofs::Firsts::none_passes, crate::proofs::Firsts::first_is_refused))]
+pub fn scan(alloc: Global, tokens: &[Token], dialect: Dialect) -> Result<(), Fail>
+    ensures ok { OnOk result (first_refusal dialect tokens.now ≡ None) }
+    ensures refused { IfErr result (λ e. IfRefused e (λ r. first_refusal dialect tokens.now ≡ Some r)) }
+
+    // The same, token by token.
+    ensures passes { OnOk result (Passes dialect tokens.now) }
+    ensures first { IfErr result (λ e. IfRefused e (IsRefused dialect tokens.now)) }
+{
+    scan_all(alloc, tokens, dialect)
 }

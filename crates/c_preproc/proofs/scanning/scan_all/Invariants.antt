@@ -3,7 +3,7 @@ use Rattle.c_preproc.specs.Role.{next_role}
 use Rattle.c_preproc.specs.Nesting.{contexts_behind}
 use Rattle.c_preproc.specs.Counts.{Shows}
 use Rattle.c_preproc.specs.Scan.{first_refusal, first_refusal_behind}
-use Rattle.c_preproc.proofs.scanning.scan.Given as goal
+use Rattle.c_preproc.proofs.scanning.scan_all.Given as goal
 
 abbrev pub invariant-loop-i : goal.invariant-loop-i
 invariant-loop-i l = record {
