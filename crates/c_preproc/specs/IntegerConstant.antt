@@ -1,5 +1,6 @@
 -- The integer constants of C and their values and types (C11 6.4.4.1), with binary ones.
 use Rattle.std.specs.Prelude.{ℕ, ◌+◌, ◌-◌, ◌*◌, ◌^◌, List, [], ◌∷◌, length, drop, take_while, find, codes, bytes_eq, nat_le, nat_lt, ◌==◌, ◌&&◌, ◌||◌, Bool, if◌then◌else◌, Option, None, option_map, option_and_then, ℤ, pos}
+use Rattle.std.specs.Str.{byte}
 use Rattle.std.specs.Map.{lookup}
 use Rattle.lane_core.specs.declared.number.IntType.{IntType}
 use Rattle.lane_core.specs.declared.number.IntType.TheVariants.{Int, UInt, Long, ULong, LLong, ULLong}
@@ -11,7 +12,7 @@ use Rattle.c_preproc.specs.declared.integer.Suffix.TheVariants.{Plain, U, L, Ul,
 
 -- the bytes from `low` to `high`
 abbrev pub is_between : ℕ → ℕ → ℕ → Bool
-is_between low high byte = nat_le low byte && nat_le byte high
+is_between low high b = nat_le low b && nat_le b high
 
 abbrev pub radix_of : Base → ℕ
 radix_of Binary = 2
@@ -22,19 +23,24 @@ radix_of Hexadecimal = 16
 -- the base, by how a constant begins: `0x`, `0b`, `0`, or anything else
 abbrev pub base_of : List ℕ → Base
 base_of [] = Decimal
-base_of (a ∷ []) = if a == 48 then Octal else Decimal
-base_of (a ∷ b ∷ _) = if a == 48 then (if b == 120 || b == 88 then Hexadecimal else if b == 98 || b == 66 then Binary else Octal) else Decimal
+base_of (a ∷ []) = if a == byte "0" then Octal else Decimal
+base_of (a ∷ b ∷ _) =
+    if a == byte "0" then (
+    if b == byte "x" || b == byte "X" then Hexadecimal
+    else if b == byte "b" || b == byte "B" then Binary
+    else Octal)
+    else Decimal
 
--- the digits of a base: 0 to 1, 0 to 7, 0 to 9, and 0 to 9 with A to F and a to f
+-- the digits of a base
 abbrev pub is_digit : Base → ℕ → Bool
-is_digit Binary byte = is_between 48 49 byte
-is_digit Octal byte = is_between 48 55 byte
-is_digit Decimal byte = is_between 48 57 byte
-is_digit Hexadecimal byte = is_between 48 57 byte || is_between 65 70 byte || is_between 97 102 byte
+is_digit Binary b = is_between (byte "0") (byte "1") b
+is_digit Octal b = is_between (byte "0") (byte "7") b
+is_digit Decimal b = is_between (byte "0") (byte "9") b
+is_digit Hexadecimal b = is_between (byte "0") (byte "9") b || is_between (byte "A") (byte "F") b || is_between (byte "a") (byte "f") b
 
 -- the value of a digit
 abbrev pub digit_value : ℕ → ℕ
-digit_value byte = if nat_le byte 57 then byte - 48 else if nat_le byte 70 then byte - 55 else byte - 87
+digit_value b = if nat_le b (byte "9") then b - byte "0" else if nat_le b (byte "F") then b - byte "A" + 10 else b - byte "a" + 10
 
 -- the number that digits write, the first one the most significant
 abbrev pub number_of : ℕ → List ℕ → ℕ

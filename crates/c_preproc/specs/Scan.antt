@@ -10,6 +10,16 @@ use Rattle.c_preproc.specs.ExcludedWord.{is_excluded}
 use Rattle.c_preproc.specs.Role.{next_role}
 use Rattle.c_preproc.specs.Nesting.{contexts_behind, is_too_deep, limits_of}
 
+-- the numbers of the refusals: a token that is none of C, an excluded word, nesting or weight above its limit
+abbrev pub bad_token : ℕ
+bad_token = 4
+
+abbrev pub outside_profile : ℕ
+outside_profile = 18
+
+abbrev pub too_deep : ℕ
+too_deep = 19
+
 -- the refusal of a token, whose detail is its text: at most the first 255 bytes
 abbrev pub refusal_of : ℕ → Token → Refusal
 refusal_of number t = record { number = number; place = t.place; detail = take 255 t.text }
@@ -18,9 +28,9 @@ refusal_of number t = record { number = number; place = t.place; detail = take 2
 -- or nesting or weight is above its limit once it has been counted
 unfoldable pub refusal_at : Dialect → List Token → Token → List Token → Option Refusal
 refusal_at dialect before t after =
-    if not (is_c_token t.kind t.text) then Some (refusal_of 4 t)
-    else if is_excluded dialect t.kind t.text then Some (refusal_of 18 t)
-    else if is_too_deep (limits_of dialect) (contexts_behind (t ∷ before) (next_role after)) then Some (refusal_of 19 t)
+    if not (is_c_token t.kind t.text) then Some (refusal_of bad_token t)
+    else if is_excluded dialect t.kind t.text then Some (refusal_of outside_profile t)
+    else if is_too_deep (limits_of dialect) (contexts_behind (t ∷ before) (next_role after)) then Some (refusal_of too_deep t)
     else None
 
 -- the first of two refusals that is there

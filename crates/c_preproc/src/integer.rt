@@ -58,9 +58,9 @@ fn digit_value(byte: u8) -> u8
     if byte <= b'9' {
         byte.saturating_sub(b'0')
     } else if byte <= b'F' {
-        byte.saturating_sub(b'A' - 10)
+        byte.saturating_sub(b'A') + 10
     } else {
-        byte.saturating_sub(b'a' - 10)
+        byte.saturating_sub(b'a') + 10
     }
 }
 

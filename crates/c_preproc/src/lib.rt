@@ -14,3 +14,6 @@ mod words;
 
 pub use constants::constant;
 pub use scanning::scan;
+
+#[cfg(test)]
+mod tests;

@@ -14,6 +14,13 @@ use crate::words::is_excluded;
 use c_text::{Dialect, Fail, Refusal, Text, Token};
 use std::alloc::Global;
 
+// The numbers of the refusals.
+const BAD_TOKEN: u8 = 4;
+
+const OUTSIDE_PROFILE: u8 = 18;
+
+const TOO_DEEP: u8 = 19;
+
 // At most the first 255 bytes.
 fn shortened(bytes: &[u8]) -> &[u8]
     ensures { result.now ≡ take 255 bytes.now }
@@ -92,14 +99,14 @@ fn judge(
     ensures light { OnOk result (nesting.new.weight < 2 ^ 32) }
 {
     if !is_c_token(token) {
-        return Err(refuse(alloc, 4, token));
+        return Err(refuse(alloc, BAD_TOKEN, token));
     }
     if is_excluded(dialect, token) {
-        return Err(refuse(alloc, 18, token));
+        return Err(refuse(alloc, OUTSIDE_PROFILE, token));
     }
     nesting.count(token_role(token), opens_block(before), next_role(after))?;
     if nesting.is_too_deep(dialect_limits(dialect)) {
-        return Err(refuse(alloc, 19, token));
+        return Err(refuse(alloc, TOO_DEEP, token));
     }
     Ok(())
 }
@@ -111,7 +118,14 @@ fn scan_all(alloc: Global, tokens: &[Token], dialect: Dialect) -> Result<(), Fai
 {
     let mut nesting = Nesting::new(alloc);
     for (i, token) in tokens.iter().enumerate() {
-        judge(alloc, dialect, &mut nesting, &tokens[..i], token, &tokens[i + 1..])?;
+        judge(
+            alloc,
+            dialect,
+            &mut nesting,
+            &tokens[..i],
+            token,
+            &tokens[i + 1..],
+        )?;
     }
     Ok(())
 }
