@@ -90,95 +90,39 @@ impl ExprKind {
     {
         match self {
             ExprKind::Const(n) => Ok(ExprKind::Const(*n)),
-            ExprKind::Name(x) => {
-                let x = x.copy(alloc)?;
-                Ok(ExprKind::Name(x))
-            }
-            ExprKind::Unary(op, a) => {
-                let a = a.copy(alloc)?;
-                Ok(ExprKind::Unary(*op, a))
-            }
-            ExprKind::Step(a, up, before) => {
-                let a = a.copy(alloc)?;
-                Ok(ExprKind::Step(a, *up, *before))
-            }
-            ExprKind::Binary(op, a, b) => {
-                let a = a.copy(alloc)?;
-                let b = b.copy(alloc)?;
-                Ok(ExprKind::Binary(*op, a, b))
-            }
-            ExprKind::AndThen(a, b) => {
-                let a = a.copy(alloc)?;
-                let b = b.copy(alloc)?;
-                Ok(ExprKind::AndThen(a, b))
-            }
-            ExprKind::OrElse(a, b) => {
-                let a = a.copy(alloc)?;
-                let b = b.copy(alloc)?;
-                Ok(ExprKind::OrElse(a, b))
-            }
-            ExprKind::Choice(c, a, b) => {
-                let c = c.copy(alloc)?;
-                let a = a.copy(alloc)?;
-                let b = b.copy(alloc)?;
-                Ok(ExprKind::Choice(c, a, b))
-            }
-            ExprKind::Assign(op, a, b) => {
-                let a = a.copy(alloc)?;
-                let b = b.copy(alloc)?;
-                Ok(ExprKind::Assign(*op, a, b))
-            }
-            ExprKind::Comma(all) => {
-                let all = copy_all(alloc, all.as_slice())?;
-                Ok(ExprKind::Comma(all))
-            }
-            ExprKind::Cast(ty, a, written) => {
-                let a = a.copy(alloc)?;
-                Ok(ExprKind::Cast(*ty, a, *written))
-            }
-            ExprKind::Index(a, b) => {
-                let a = a.copy(alloc)?;
-                let b = b.copy(alloc)?;
-                Ok(ExprKind::Index(a, b))
-            }
-            ExprKind::Deref(a) => {
-                let a = a.copy(alloc)?;
-                Ok(ExprKind::Deref(a))
-            }
-            ExprKind::Address(a) => {
-                let a = a.copy(alloc)?;
-                Ok(ExprKind::Address(a))
-            }
-            ExprKind::Call(f, all) => {
-                let f = f.copy(alloc)?;
-                let all = copy_all(alloc, all.as_slice())?;
-                Ok(ExprKind::Call(f, all))
-            }
-            ExprKind::Half(a, k) => {
-                let a = a.copy(alloc)?;
-                Ok(ExprKind::Half(a, *k))
-            }
-            ExprKind::PairOf(a, b) => {
-                let a = a.copy(alloc)?;
-                let b = b.copy(alloc)?;
-                Ok(ExprKind::PairOf(a, b))
-            }
+            ExprKind::Name(x) => Ok(ExprKind::Name(x.copy(alloc)?)),
+            ExprKind::Unary(op, a) => Ok(ExprKind::Unary(*op, a.copy(alloc)?)),
+            ExprKind::Step(a, up, before) => Ok(ExprKind::Step(a.copy(alloc)?, *up, *before)),
+            ExprKind::Binary(op, a, b) => Ok(ExprKind::Binary(*op, a.copy(alloc)?, b.copy(alloc)?)),
+            ExprKind::AndThen(a, b) => Ok(ExprKind::AndThen(a.copy(alloc)?, b.copy(alloc)?)),
+            ExprKind::OrElse(a, b) => Ok(ExprKind::OrElse(a.copy(alloc)?, b.copy(alloc)?)),
+            ExprKind::Choice(c, a, b) => Ok(ExprKind::Choice(
+                c.copy(alloc)?,
+                a.copy(alloc)?,
+                b.copy(alloc)?,
+            )),
+            ExprKind::Assign(op, a, b) => Ok(ExprKind::Assign(*op, a.copy(alloc)?, b.copy(alloc)?)),
+            ExprKind::Comma(all) => Ok(ExprKind::Comma(copy_exprs(alloc, all.as_slice())?)),
+            ExprKind::Cast(ty, a, written) => Ok(ExprKind::Cast(*ty, a.copy(alloc)?, *written)),
+            ExprKind::Index(a, b) => Ok(ExprKind::Index(a.copy(alloc)?, b.copy(alloc)?)),
+            ExprKind::Deref(a) => Ok(ExprKind::Deref(a.copy(alloc)?)),
+            ExprKind::Address(a) => Ok(ExprKind::Address(a.copy(alloc)?)),
+            ExprKind::Call(f, all) => Ok(ExprKind::Call(
+                f.copy(alloc)?,
+                copy_exprs(alloc, all.as_slice())?,
+            )),
+            ExprKind::Half(a, k) => Ok(ExprKind::Half(a.copy(alloc)?, *k)),
+            ExprKind::PairOf(a, b) => Ok(ExprKind::PairOf(a.copy(alloc)?, b.copy(alloc)?)),
             ExprKind::SizeOfType(ty) => Ok(ExprKind::SizeOfType(*ty)),
-            ExprKind::SizeOfName(x) => {
-                let x = x.copy(alloc)?;
-                Ok(ExprKind::SizeOfName(x))
-            }
-            ExprKind::Str(x) => {
-                let x = x.copy(alloc)?;
-                Ok(ExprKind::Str(x))
-            }
+            ExprKind::SizeOfName(x) => Ok(ExprKind::SizeOfName(x.copy(alloc)?)),
+            ExprKind::Str(x) => Ok(ExprKind::Str(x.copy(alloc)?)),
         }
     }
 }
 
 /// The same expressions once more.
 #[cycle(copying)]
-pub fn copy_all(alloc: Global, all: &[Expr]) -> Result<Vec<Expr>, AllocError>
+pub fn copy_exprs(alloc: Global, all: &[Expr]) -> Result<Vec<Expr>, AllocError>
     ensures { IfOk result (λ c. views c.items ≡ views all.now) }
 {
     let mut out = Vec::new(alloc);
@@ -195,9 +139,6 @@ pub fn copy_option(alloc: Global, e: &Option<Expr>) -> Result<Option<Expr>, Allo
 {
     match e {
         None => Ok(None),
-        Some(e) => {
-            let e = e.copy(alloc)?;
-            Ok(Some(e))
-        }
+        Some(e) => Ok(Some(e.copy(alloc)?)),
     }
 }

@@ -53,7 +53,7 @@ fn written(k: &ExprKind) -> &ExprKind
 
 /// Whether the expressions are the same.
 #[cycle(same)]
-pub fn same(a: &Expr, b: &Expr) -> bool
+pub fn same_expr(a: &Expr, b: &Expr) -> bool
     ensures { IsTrue result ↔ (stripped (view a.now) ≡ stripped (view b.now)) }
 {
     same_kind(&a.kind, &b.kind)
@@ -77,96 +77,46 @@ fn same_written(a: &ExprKind, b: &ExprKind) -> bool
     requires second { IsWritten (view_kind b.now) }
     ensures { IsTrue result ↔ (stripped_kind (view_kind a.now) ≡ stripped_kind (view_kind b.now)) }
 {
-    match a {
-        ExprKind::Const(m) => match b {
-            ExprKind::Const(n) => same_number(m, n),
-            _ => false,
-        },
-        ExprKind::Name(x) => match b {
-            ExprKind::Name(y) => same_text(x, y),
-            _ => false,
-        },
-        ExprKind::Unary(o, x) => match b {
-            ExprKind::Unary(p, y) => *o == *p && same(x, y),
-            _ => false,
-        },
-        ExprKind::Step(x, up, before) => match b {
-            ExprKind::Step(y, and_up, and_before) => *up == *and_up
-                && *before == *and_before
-                && same(x, y),
-            _ => false,
-        },
-        ExprKind::Binary(o, x, u) => match b {
-            ExprKind::Binary(p, y, v) => *o == *p && same(x, y) && same(u, v),
-            _ => false,
-        },
-        ExprKind::AndThen(x, u) => match b {
-            ExprKind::AndThen(y, v) => same(x, y) && same(u, v),
-            _ => false,
-        },
-        ExprKind::OrElse(x, u) => match b {
-            ExprKind::OrElse(y, v) => same(x, y) && same(u, v),
-            _ => false,
-        },
-        ExprKind::Choice(c, x, u) => match b {
-            ExprKind::Choice(d, y, v) => same(c, d) && same(x, y) && same(u, v),
-            _ => false,
-        },
-        ExprKind::Assign(o, x, u) => match b {
-            ExprKind::Assign(p, y, v) => *o == *p && same(x, y) && same(u, v),
-            _ => false,
-        },
-        ExprKind::Comma(all) => match b {
-            ExprKind::Comma(others) => same_all(all.as_slice(), others.as_slice()),
-            _ => false,
-        },
-        ExprKind::Cast(t, x, _) => match b {
-            ExprKind::Cast(s, y, _) => same_type(*t, *s) && same(x, y),
-            _ => false,
-        },
-        ExprKind::Index(x, u) => match b {
-            ExprKind::Index(y, v) => same(x, y) && same(u, v),
-            _ => false,
-        },
-        ExprKind::Deref(x) => match b {
-            ExprKind::Deref(y) => same(x, y),
-            _ => false,
-        },
-        ExprKind::Address(x) => match b {
-            ExprKind::Address(y) => same(x, y),
-            _ => false,
-        },
-        ExprKind::Call(f, all) => match b {
-            ExprKind::Call(g, others) => same_text(f, g)
-                && same_all(all.as_slice(), others.as_slice()),
-            _ => false,
-        },
-        ExprKind::Half(x, k) => match b {
-            ExprKind::Half(y, l) => *k == *l && same(x, y),
-            _ => false,
-        },
-        ExprKind::PairOf(x, u) => match b {
-            ExprKind::PairOf(y, v) => same(x, y) && same(u, v),
-            _ => false,
-        },
-        ExprKind::SizeOfType(t) => match b {
-            ExprKind::SizeOfType(s) => same_type(*t, *s),
-            _ => false,
-        },
-        ExprKind::SizeOfName(x) => match b {
-            ExprKind::SizeOfName(y) => same_text(x, y),
-            _ => false,
-        },
-        ExprKind::Str(x) => match b {
-            ExprKind::Str(y) => same_text(x, y),
-            _ => false,
-        },
+    match (a, b) {
+        (ExprKind::Const(m), ExprKind::Const(n)) => same_number(m, n),
+        (ExprKind::Name(x), ExprKind::Name(y)) => same_text(x, y),
+        (ExprKind::Unary(o, x), ExprKind::Unary(p, y)) => *o == *p && same_expr(x, y),
+        (ExprKind::Step(x, up, before), ExprKind::Step(y, and_up, and_before)) => *up == *and_up
+            && *before == *and_before
+            && same_expr(x, y),
+        (ExprKind::Binary(o, x, u), ExprKind::Binary(p, y, v)) => *o == *p
+            && same_expr(x, y)
+            && same_expr(u, v),
+        (ExprKind::AndThen(x, u), ExprKind::AndThen(y, v)) => same_expr(x, y) && same_expr(u, v),
+        (ExprKind::OrElse(x, u), ExprKind::OrElse(y, v)) => same_expr(x, y) && same_expr(u, v),
+        (ExprKind::Choice(c, x, u), ExprKind::Choice(d, y, v)) => same_expr(c, d)
+            && same_expr(x, y)
+            && same_expr(u, v),
+        (ExprKind::Assign(o, x, u), ExprKind::Assign(p, y, v)) => *o == *p
+            && same_expr(x, y)
+            && same_expr(u, v),
+        (ExprKind::Comma(all), ExprKind::Comma(others)) => same_exprs(
+            all.as_slice(),
+            others.as_slice(),
+        ),
+        (ExprKind::Cast(t, x, _), ExprKind::Cast(s, y, _)) => same_type(*t, *s) && same_expr(x, y),
+        (ExprKind::Index(x, u), ExprKind::Index(y, v)) => same_expr(x, y) && same_expr(u, v),
+        (ExprKind::Deref(x), ExprKind::Deref(y)) => same_expr(x, y),
+        (ExprKind::Address(x), ExprKind::Address(y)) => same_expr(x, y),
+        (ExprKind::Call(f, all), ExprKind::Call(g, others)) => same_text(f, g)
+            && same_exprs(all.as_slice(), others.as_slice()),
+        (ExprKind::Half(x, k), ExprKind::Half(y, l)) => *k == *l && same_expr(x, y),
+        (ExprKind::PairOf(x, u), ExprKind::PairOf(y, v)) => same_expr(x, y) && same_expr(u, v),
+        (ExprKind::SizeOfType(t), ExprKind::SizeOfType(s)) => same_type(*t, *s),
+        (ExprKind::SizeOfName(x), ExprKind::SizeOfName(y)) => same_text(x, y),
+        (ExprKind::Str(x), ExprKind::Str(y)) => same_text(x, y),
+        _ => false,
     }
 }
 
 /// Whether the expressions in a row are the same, one by one.
 #[cycle(same)]
-fn same_all(a: &[Expr], b: &[Expr]) -> bool
+fn same_exprs(a: &[Expr], b: &[Expr]) -> bool
     ensures { IsTrue result ↔ (stripped_all (views a.now) ≡ stripped_all (views b.now)) }
 {
     let mut rest = b;
@@ -174,7 +124,7 @@ fn same_all(a: &[Expr], b: &[Expr]) -> bool
         match rest.split_first() {
             None => return false,
             Some((y, more)) => {
-                if same(x, y) {
+                if same_expr(x, y) {
                     rest = more;
                 } else {
                     return false;
@@ -192,15 +142,10 @@ fn same_all(a: &[Expr], b: &[Expr]) -> bool
 fn same_option(a: &Option<Expr>, b: &Option<Expr>) -> bool
     ensures { IsTrue result ↔ (option_map stripped (option_map view a.now) ≡ option_map stripped (option_map view b.now)) }
 {
-    match a {
-        None => match b {
-            None => true,
-            Some(_) => false,
-        },
-        Some(x) => match b {
-            None => false,
-            Some(y) => same(x, y),
-        },
+    match (a, b) {
+        (None, None) => true,
+        (Some(x), Some(y)) => same_expr(x, y),
+        _ => false,
     }
 }
 
@@ -208,20 +153,15 @@ fn same_option(a: &Option<Expr>, b: &Option<Expr>) -> bool
 fn same_list(a: &Option<Vec<Expr>>, b: &Option<Vec<Expr>>) -> bool
     ensures { IsTrue result ↔ (option_map stripped_all (option_map (λ l. views l.items) a.now) ≡ option_map stripped_all (option_map (λ l. views l.items) b.now)) }
 {
-    match a {
-        None => match b {
-            None => true,
-            Some(_) => false,
-        },
-        Some(all) => match b {
-            None => false,
-            Some(others) => same_all(all.as_slice(), others.as_slice()),
-        },
+    match (a, b) {
+        (None, None) => true,
+        (Some(all), Some(others)) => same_exprs(all.as_slice(), others.as_slice()),
+        _ => false,
     }
 }
 
 /// Whether the objects are the same.
-fn same_declared(a: &Declared, b: &Declared) -> bool
+pub fn same_object(a: &Declared, b: &Declared) -> bool
     ensures { IsTrue result ↔ (stripped_object (view_declared a.now) ≡ stripped_object (view_declared b.now)) }
 {
     same_text(&a.name, &b.name)
@@ -242,7 +182,7 @@ fn same_objects(a: &[Declared], b: &[Declared]) -> bool
         match rest.split_first() {
             None => return false,
             Some((y, more)) => {
-                if same_declared(x, y) {
+                if same_object(x, y) {
                     rest = more;
                 } else {
                     return false;
@@ -261,54 +201,27 @@ fn same_objects(a: &[Declared], b: &[Declared]) -> bool
 pub fn same_stmt(a: &Stmt, b: &Stmt) -> bool
     ensures { IsTrue result ↔ (stripped_statement (view_stmt a.now) ≡ stripped_statement (view_stmt b.now)) }
 {
-    match a {
-        Stmt::Declare(all) => match b {
-            Stmt::Declare(others) => same_objects(all.as_slice(), others.as_slice()),
-            _ => false,
-        },
-        Stmt::Run(x) => match b {
-            Stmt::Run(y) => same(x, y),
-            _ => false,
-        },
-        Stmt::Block(all) => match b {
-            Stmt::Block(others) => same_stmts(all.as_slice(), others.as_slice()),
-            _ => false,
-        },
-        Stmt::If(c, s, o) => match b {
-            Stmt::If(d, t, p) => same(c, d) && same_stmt(s, t) && same_optional(o, p),
-            _ => false,
-        },
-        Stmt::While(c, s) => match b {
-            Stmt::While(d, t) => same(c, d) && same_stmt(s, t),
-            _ => false,
-        },
-        Stmt::DoWhile(s, c) => match b {
-            Stmt::DoWhile(t, d) => same_stmt(s, t) && same(c, d),
-            _ => false,
-        },
-        Stmt::For(i, c, n, s) => match b {
-            Stmt::For(j, d, m, t) => same_optional(i, j)
-                && same_option(c, d)
-                && same_option(n, m)
-                && same_stmt(s, t),
-            _ => false,
-        },
-        Stmt::Break(_) => match b {
-            Stmt::Break(_) => true,
-            _ => false,
-        },
-        Stmt::Continue(_) => match b {
-            Stmt::Continue(_) => true,
-            _ => false,
-        },
-        Stmt::Return(_, x) => match b {
-            Stmt::Return(_, y) => same_option(x, y),
-            _ => false,
-        },
-        Stmt::Empty => match b {
-            Stmt::Empty => true,
-            _ => false,
-        },
+    match (a, b) {
+        (Stmt::Declare(all), Stmt::Declare(others)) => same_objects(
+            all.as_slice(),
+            others.as_slice(),
+        ),
+        (Stmt::Run(x), Stmt::Run(y)) => same_expr(x, y),
+        (Stmt::Block(all), Stmt::Block(others)) => same_stmts(all.as_slice(), others.as_slice()),
+        (Stmt::If(c, s, o), Stmt::If(d, t, p)) => same_expr(c, d)
+            && same_stmt(s, t)
+            && same_optional(o, p),
+        (Stmt::While(c, s), Stmt::While(d, t)) => same_expr(c, d) && same_stmt(s, t),
+        (Stmt::DoWhile(s, c), Stmt::DoWhile(t, d)) => same_stmt(s, t) && same_expr(c, d),
+        (Stmt::For(i, c, n, s), Stmt::For(j, d, m, t)) => same_optional(i, j)
+            && same_option(c, d)
+            && same_option(n, m)
+            && same_stmt(s, t),
+        (Stmt::Break(_), Stmt::Break(_)) => true,
+        (Stmt::Continue(_), Stmt::Continue(_)) => true,
+        (Stmt::Return(_, x), Stmt::Return(_, y)) => same_option(x, y),
+        (Stmt::Empty, Stmt::Empty) => true,
+        _ => false,
     }
 }
 
@@ -317,15 +230,10 @@ pub fn same_stmt(a: &Stmt, b: &Stmt) -> bool
 fn same_optional(a: &Option<Box<Stmt>>, b: &Option<Box<Stmt>>) -> bool
     ensures { IsTrue result ↔ (stripped_optional (view_optional a.now) ≡ stripped_optional (view_optional b.now)) }
 {
-    match a {
-        None => match b {
-            None => true,
-            Some(_) => false,
-        },
-        Some(s) => match b {
-            None => false,
-            Some(t) => same_stmt(s, t),
-        },
+    match (a, b) {
+        (None, None) => true,
+        (Some(s), Some(t)) => same_stmt(s, t),
+        _ => false,
     }
 }
 
@@ -376,7 +284,7 @@ fn same_item(a: &Item, b: &Item) -> bool
         },
         Item::Table(x, is_static) => match b {
             Item::Function(_) => false,
-            Item::Table(y, also_static) => same_declared(x, y) && *is_static == *also_static,
+            Item::Table(y, also_static) => same_object(x, y) && *is_static == *also_static,
         },
     }
 }

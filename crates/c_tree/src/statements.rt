@@ -3,7 +3,7 @@
 ghost use Rattle.std.specs.Prelude.{◌≡◌, IfOk, map, option_map};
 ghost use Rattle.c_tree.specs.View.{views, view_declared, view_stmt, view_stmts, view_optional};
 
-use crate::expressions::{Expr, copy_all, copy_option};
+use crate::expressions::{Expr, copy_exprs, copy_option};
 use crate::types::CType;
 use c_text::{Place, Text};
 use std::alloc::{AllocError, Global};
@@ -85,15 +85,12 @@ fn copy_list(alloc: Global, list: &Option<Vec<Expr>>) -> Result<Option<Vec<Expr>
 {
     match list {
         None => Ok(None),
-        Some(all) => {
-            let all = copy_all(alloc, all.as_slice())?;
-            Ok(Some(all))
-        }
+        Some(all) => Ok(Some(copy_exprs(alloc, all.as_slice())?)),
     }
 }
 
 /// The same objects once more.
-pub fn copy_declared(alloc: Global, all: &[Declared]) -> Result<Vec<Declared>, AllocError>
+pub fn copy_objects(alloc: Global, all: &[Declared]) -> Result<Vec<Declared>, AllocError>
     ensures { IfOk result (λ c. map view_declared c.items ≡ map view_declared all.now) }
 {
     let mut out = Vec::new(alloc);
@@ -111,34 +108,17 @@ impl Stmt {
         ensures { IfOk result (λ c. view_stmt c ≡ view_stmt self.now) }
     {
         match self {
-            Stmt::Declare(all) => {
-                let all = copy_declared(alloc, all.as_slice())?;
-                Ok(Stmt::Declare(all))
-            }
-            Stmt::Run(e) => {
-                let e = e.copy(alloc)?;
-                Ok(Stmt::Run(e))
-            }
-            Stmt::Block(all) => {
-                let all = copy_stmts(alloc, all.as_slice())?;
-                Ok(Stmt::Block(all))
-            }
+            Stmt::Declare(all) => Ok(Stmt::Declare(copy_objects(alloc, all.as_slice())?)),
+            Stmt::Run(e) => Ok(Stmt::Run(e.copy(alloc)?)),
+            Stmt::Block(all) => Ok(Stmt::Block(copy_stmts(alloc, all.as_slice())?)),
             Stmt::If(c, body, otherwise) => {
                 let c = c.copy(alloc)?;
                 let body = copy_boxed(alloc, body)?;
                 let otherwise = copy_optional(alloc, otherwise)?;
                 Ok(Stmt::If(c, body, otherwise))
             }
-            Stmt::While(c, body) => {
-                let c = c.copy(alloc)?;
-                let body = copy_boxed(alloc, body)?;
-                Ok(Stmt::While(c, body))
-            }
-            Stmt::DoWhile(body, c) => {
-                let body = copy_boxed(alloc, body)?;
-                let c = c.copy(alloc)?;
-                Ok(Stmt::DoWhile(body, c))
-            }
+            Stmt::While(c, body) => Ok(Stmt::While(c.copy(alloc)?, copy_boxed(alloc, body)?)),
+            Stmt::DoWhile(body, c) => Ok(Stmt::DoWhile(copy_boxed(alloc, body)?, c.copy(alloc)?)),
             Stmt::For(start, c, step, body) => {
                 let start = copy_optional(alloc, start)?;
                 let c = copy_option(alloc, c)?;
@@ -148,10 +128,7 @@ impl Stmt {
             }
             Stmt::Break(place) => Ok(Stmt::Break(*place)),
             Stmt::Continue(place) => Ok(Stmt::Continue(*place)),
-            Stmt::Return(place, e) => {
-                let e = copy_option(alloc, e)?;
-                Ok(Stmt::Return(*place, e))
-            }
+            Stmt::Return(place, e) => Ok(Stmt::Return(*place, copy_option(alloc, e)?)),
             Stmt::Empty => Ok(Stmt::Empty),
         }
     }
@@ -163,8 +140,7 @@ fn copy_boxed(alloc: Global, s: &Stmt) -> Result<Box<Stmt>, AllocError>
     ensures { IfOk result (λ c. view_stmt c.value ≡ view_stmt s.now) }
 {
     let s = s.copy(alloc)?;
-    let s = Box::new(alloc, s)?;
-    Ok(s)
+    Ok(Box::new(alloc, s)?)
 }
 
 /// The same statement once more, where there is one.
@@ -174,10 +150,7 @@ fn copy_optional(alloc: Global, s: &Option<Box<Stmt>>) -> Result<Option<Box<Stmt
 {
     match s {
         None => Ok(None),
-        Some(s) => {
-            let s = copy_boxed(alloc, s)?;
-            Ok(Some(s))
-        }
+        Some(s) => Ok(Some(copy_boxed(alloc, s)?)),
     }
 }
 

@@ -5,7 +5,7 @@ ghost use Rattle.c_tree.specs.View.{view_function, view_item, view_unit};
 ghost use Rattle.c_tree.specs.Same.{Same};
 
 use crate::same::same_items;
-use crate::statements::{Declared, Stmt, copy_declared, copy_stmts};
+use crate::statements::{Declared, Stmt, copy_objects, copy_stmts};
 use crate::types::CType;
 use c_text::{Place, Text};
 use std::alloc::{AllocError, Global};
@@ -51,7 +51,7 @@ impl Function {
         ensures { IfOk result (λ c. view_function c ≡ view_function self.now) }
     {
         let name = self.name.copy(alloc)?;
-        let params = copy_declared(alloc, self.params.as_slice())?;
+        let params = copy_objects(alloc, self.params.as_slice())?;
         let body = copy_stmts(alloc, self.body.as_slice())?;
         Ok(Function {
             place: self.place,
@@ -71,14 +71,8 @@ impl Item {
         ensures { IfOk result (λ c. view_item c ≡ view_item self.now) }
     {
         match self {
-            Item::Function(f) => {
-                let f = f.copy(alloc)?;
-                Ok(Item::Function(f))
-            }
-            Item::Table(d, is_static) => {
-                let d = d.copy(alloc)?;
-                Ok(Item::Table(d, *is_static))
-            }
+            Item::Function(f) => Ok(Item::Function(f.copy(alloc)?)),
+            Item::Table(d, is_static) => Ok(Item::Table(d.copy(alloc)?, *is_static)),
         }
     }
 }
