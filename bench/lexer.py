@@ -36,8 +36,7 @@ TEXTS = {
 
 
 def build(top, folder):
-    for name in ("HANDLES",):
-        shutil.copy(os.path.join(top, name), folder)
+    shutil.copy(os.path.join(top, "HANDLES"), folder)
     shutil.copytree(os.path.join(top, "crates", "c_text"), os.path.join(folder, "crates", "c_text"))
     crate = os.path.join(folder, "crates", "count_tokens")
     for part in ("src", "specs", "proofs"):
@@ -47,7 +46,9 @@ def build(top, folder):
         file.write(MAIN)
     with open(os.path.join(folder, "crates.txt"), "w") as file:
         file.write("c_text:\ncount_tokens: c_text\n")
-    subprocess.run(["rt", "run"], cwd=crate, stdin=subprocess.DEVNULL, stdout=subprocess.DEVNULL, check=True)
+    built = subprocess.run(["rt", "run"], cwd=crate, stdin=subprocess.DEVNULL, capture_output=True, text=True)
+    if built.returncode != 0:
+        raise SystemExit(built.stderr)
     return os.path.join(crate, "out", "count_tokens")
 
 
