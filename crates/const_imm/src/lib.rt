@@ -1,0 +1,11 @@
+//! Values of constant expressions (C11 6.6).
+#![tactic(auto)]
+
+mod evaluation;
+mod expressions;
+mod sizes;
+#[cfg(test)]
+mod tests;
+
+pub use c_tree::{Expr, Num, Place};
+pub use expressions::{NotConst, eval_const};
