@@ -227,8 +227,10 @@ fn common_type(left: Evaluation, right: Evaluation) -> Option<IntType>
 
 /// `?:` between a condition and two arms.
 pub fn choice_evaluation(condition: Evaluation, left: Evaluation, right: Evaluation) -> Evaluation
-    ensures ty { type_given result ≡ typed_both (λ s t. t) (type_given condition) (typed_both common_of (type_given left) (type_given right)) }
-    ensures value { value_given result ≡ choice_value (value_given condition) (typed_both common_of (type_given left) (type_given right)) (value_given left) (value_given right) }
+    ensures ty { type_given result
+        ≡ typed_both (λ s t. t) (type_given condition) (typed_both common_of (type_given left) (type_given right)) }
+    ensures value { value_given result
+        ≡ choice_value (value_given condition) (typed_both common_of (type_given left) (type_given right)) (value_given left) (value_given right) }
 {
     match common_type(left, right) {
         None => Evaluation::OtherForm,

@@ -56,6 +56,8 @@ sizeof:uint8x8_t -> ULong 8
 sizeof:uint8x16_t -> ULong 16
 sizeof:uint8x16x2_t -> ULong 32
 sizeof:int[3] -> ULong 12
+sizeof:int[] -> none
+sizeof:int[4611686018427387904] -> none
 sizeof:Int neg -> ULong 18446744073709551612
 sizeof:Void -> none
 x -> none
@@ -83,6 +85,10 @@ fn integer_named(name: &str) -> Option<IntType> {
     }
 }
 
+fn array_of_int(number: u64) -> CType {
+    CType::Array(Pointee::Int(IntType::Int), number, false)
+}
+
 fn type_named(name: &str) -> Option<CType> {
     match name {
         "Void" => Some(CType::Void),
@@ -92,7 +98,9 @@ fn type_named(name: &str) -> Option<CType> {
         "uint8x8_t" => Some(CType::Neon(NeonLane::U8, false)),
         "uint8x16_t" => Some(CType::Neon(NeonLane::U8, true)),
         "uint8x16x2_t" => Some(CType::Pair),
-        "int[3]" => Some(CType::Array(Pointee::Int(IntType::Int), 3, false)),
+        "int[3]" => Some(array_of_int(3)),
+        "int[]" => Some(array_of_int(0)),
+        "int[4611686018427387904]" => Some(array_of_int(4_611_686_018_427_387_904)),
         _ => Some(CType::Int(integer_named(name)?)),
     }
 }
