@@ -1,0 +1,4 @@
+pub mod Symbols
+pub mod Types
+pub mod Reading
+pub mod Grammar

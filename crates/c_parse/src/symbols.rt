@@ -1,0 +1,428 @@
+//! What the grammar sees of a token.
+
+ghost use Rattle.std.specs.Prelude.{◌≡◌, bytes_eq, map};
+ghost use Rattle.std.specs.Map.{lookup};
+ghost use Rattle.std.specs.List.{list_any};
+ghost use Rattle.c_parse.specs.Symbols.{infix_marks, assignment_marks, other_marks, type_words, x86_vectors, neon_vectors, vectors, other_words, keywords, later_keywords, symbol_of, mark_symbol, name_symbol};
+
+use c_text::{Dialect, Token, TokenKind};
+use c_tree::{BinOp, CType, IntType, NeonLane};
+
+/// An operator between two operands that groups to the left (C11 6.5.5 to 6.5.14).
+#[derive(Clone, Copy, Debug, PartialEq, Eq)]
+pub enum Infix {
+    Operator(BinOp),
+    AndThen,
+    OrElse,
+}
+
+/// A mark or a word that the grammar names.
+#[derive(Clone, Copy, Debug, PartialEq, Eq)]
+pub enum Sign {
+    Open,
+    Close,
+    OpenSquare,
+    CloseSquare,
+    Comma,
+    Question,
+    Colon,
+    SizeOf,
+}
+
+/// A word that is a part of an integer type's name (C11 6.7.2).
+#[derive(Clone, Copy, Debug, PartialEq, Eq)]
+pub enum Part {
+    Char,
+    Short,
+    Int,
+    Long,
+    Signed,
+    Unsigned,
+}
+
+/// A word of a type's name: a part of it, or all of it.
+#[derive(Clone, Copy, Debug, PartialEq, Eq)]
+pub enum TypeWord {
+    Part(Part),
+    Whole(CType),
+}
+
+/// What the grammar sees of a token.
+#[derive(Clone, Copy, Debug, PartialEq, Eq)]
+pub enum Symbol {
+    Sign(Sign),
+    /// An operator between operands. Some stand before an operand too, and `*` in types.
+    Infix(Infix),
+    /// `=`, or `+=` with the operator in it.
+    Assign(Option<BinOp>),
+    /// `++` if true, else `--`.
+    Step(bool),
+    /// `~`.
+    Tilde,
+    /// `!`.
+    Exclamation,
+    Type(TypeWord),
+    /// `const`.
+    Const,
+    /// `restrict`.
+    Restrict,
+    /// A name that is no keyword.
+    Name,
+    /// A number or a character constant.
+    Constant,
+    /// Every other token.
+    Other,
+}
+
+fn infix_mark(text: &[u8]) -> Option<Infix>
+    ensures { result ≡ lookup (bytes_eq text.now) infix_marks }
+{
+    match text {
+        b"*" => Some(Infix::Operator(BinOp::Mul)),
+        b"/" => Some(Infix::Operator(BinOp::Div)),
+        b"%" => Some(Infix::Operator(BinOp::Rem)),
+        b"+" => Some(Infix::Operator(BinOp::Add)),
+        b"-" => Some(Infix::Operator(BinOp::Sub)),
+        b"<<" => Some(Infix::Operator(BinOp::Shl)),
+        b">>" => Some(Infix::Operator(BinOp::Shr)),
+        b"<" => Some(Infix::Operator(BinOp::Lt)),
+        b">" => Some(Infix::Operator(BinOp::Gt)),
+        b"<=" => Some(Infix::Operator(BinOp::Le)),
+        b">=" => Some(Infix::Operator(BinOp::Ge)),
+        b"==" => Some(Infix::Operator(BinOp::Eq)),
+        b"!=" => Some(Infix::Operator(BinOp::Ne)),
+        b"&" => Some(Infix::Operator(BinOp::BitAnd)),
+        b"^" => Some(Infix::Operator(BinOp::BitXor)),
+        b"|" => Some(Infix::Operator(BinOp::BitOr)),
+        b"&&" => Some(Infix::AndThen),
+        b"||" => Some(Infix::OrElse),
+        _ => None,
+    }
+}
+
+fn assignment(text: &[u8]) -> Option<Option<BinOp>>
+    ensures { result ≡ lookup (bytes_eq text.now) assignment_marks }
+{
+    match text {
+        b"=" => Some(None),
+        b"*=" => Some(Some(BinOp::Mul)),
+        b"/=" => Some(Some(BinOp::Div)),
+        b"%=" => Some(Some(BinOp::Rem)),
+        b"+=" => Some(Some(BinOp::Add)),
+        b"-=" => Some(Some(BinOp::Sub)),
+        b"<<=" => Some(Some(BinOp::Shl)),
+        b">>=" => Some(Some(BinOp::Shr)),
+        b"&=" => Some(Some(BinOp::BitAnd)),
+        b"^=" => Some(Some(BinOp::BitXor)),
+        b"|=" => Some(Some(BinOp::BitOr)),
+        _ => None,
+    }
+}
+
+fn other_mark(text: &[u8]) -> Option<Symbol>
+    ensures { result ≡ lookup (bytes_eq text.now) other_marks }
+{
+    match text {
+        b"(" => Some(Symbol::Sign(Sign::Open)),
+        b")" => Some(Symbol::Sign(Sign::Close)),
+        b"[" => Some(Symbol::Sign(Sign::OpenSquare)),
+        b"]" => Some(Symbol::Sign(Sign::CloseSquare)),
+        b"," => Some(Symbol::Sign(Sign::Comma)),
+        b"?" => Some(Symbol::Sign(Sign::Question)),
+        b":" => Some(Symbol::Sign(Sign::Colon)),
+        b"++" => Some(Symbol::Step(true)),
+        b"--" => Some(Symbol::Step(false)),
+        b"~" => Some(Symbol::Tilde),
+        b"!" => Some(Symbol::Exclamation),
+        _ => None,
+    }
+}
+
+fn mark_symbol(text: &[u8]) -> Symbol
+    ensures { result ≡ mark_symbol text.now }
+{
+    if let Some(op) = infix_mark(text) {
+        return Symbol::Infix(op);
+    }
+    if let Some(op) = assignment(text) {
+        return Symbol::Assign(op);
+    }
+    match other_mark(text) {
+        Some(symbol) => symbol,
+        None => Symbol::Other,
+    }
+}
+
+static TYPE_WORDS: [(&[u8], Symbol); 18] = [
+    (b"char", Symbol::Type(TypeWord::Part(Part::Char))),
+    (b"short", Symbol::Type(TypeWord::Part(Part::Short))),
+    (b"int", Symbol::Type(TypeWord::Part(Part::Int))),
+    (b"long", Symbol::Type(TypeWord::Part(Part::Long))),
+    (b"signed", Symbol::Type(TypeWord::Part(Part::Signed))),
+    (b"unsigned", Symbol::Type(TypeWord::Part(Part::Unsigned))),
+    (b"void", Symbol::Type(TypeWord::Whole(CType::Void))),
+    (
+        b"_Bool",
+        Symbol::Type(TypeWord::Whole(CType::Int(IntType::Boolean))),
+    ),
+    (
+        b"int8_t",
+        Symbol::Type(TypeWord::Whole(CType::Int(IntType::SChar))),
+    ),
+    (
+        b"int16_t",
+        Symbol::Type(TypeWord::Whole(CType::Int(IntType::Short))),
+    ),
+    (
+        b"int32_t",
+        Symbol::Type(TypeWord::Whole(CType::Int(IntType::Int))),
+    ),
+    (
+        b"int64_t",
+        Symbol::Type(TypeWord::Whole(CType::Int(IntType::Long))),
+    ),
+    (
+        b"uint8_t",
+        Symbol::Type(TypeWord::Whole(CType::Int(IntType::UChar))),
+    ),
+    (
+        b"uint16_t",
+        Symbol::Type(TypeWord::Whole(CType::Int(IntType::UShort))),
+    ),
+    (
+        b"uint32_t",
+        Symbol::Type(TypeWord::Whole(CType::Int(IntType::UInt))),
+    ),
+    (
+        b"uint64_t",
+        Symbol::Type(TypeWord::Whole(CType::Int(IntType::ULong))),
+    ),
+    (
+        b"size_t",
+        Symbol::Type(TypeWord::Whole(CType::Int(IntType::ULong))),
+    ),
+    (
+        b"ptrdiff_t",
+        Symbol::Type(TypeWord::Whole(CType::Int(IntType::Long))),
+    ),
+];
+
+static X86_VECTORS: [(&[u8], Symbol); 2] = [
+    (b"__m128i", Symbol::Type(TypeWord::Whole(CType::M128))),
+    (b"__m256i", Symbol::Type(TypeWord::Whole(CType::M256))),
+];
+
+static NEON_VECTORS: [(&[u8], Symbol); 17] = [
+    (
+        b"uint8x8_t",
+        Symbol::Type(TypeWord::Whole(CType::Neon(NeonLane::U8, false))),
+    ),
+    (
+        b"uint16x4_t",
+        Symbol::Type(TypeWord::Whole(CType::Neon(NeonLane::U16, false))),
+    ),
+    (
+        b"uint32x2_t",
+        Symbol::Type(TypeWord::Whole(CType::Neon(NeonLane::U32, false))),
+    ),
+    (
+        b"uint64x1_t",
+        Symbol::Type(TypeWord::Whole(CType::Neon(NeonLane::U64, false))),
+    ),
+    (
+        b"int8x8_t",
+        Symbol::Type(TypeWord::Whole(CType::Neon(NeonLane::S8, false))),
+    ),
+    (
+        b"int16x4_t",
+        Symbol::Type(TypeWord::Whole(CType::Neon(NeonLane::S16, false))),
+    ),
+    (
+        b"int32x2_t",
+        Symbol::Type(TypeWord::Whole(CType::Neon(NeonLane::S32, false))),
+    ),
+    (
+        b"int64x1_t",
+        Symbol::Type(TypeWord::Whole(CType::Neon(NeonLane::S64, false))),
+    ),
+    (
+        b"uint8x16_t",
+        Symbol::Type(TypeWord::Whole(CType::Neon(NeonLane::U8, true))),
+    ),
+    (
+        b"uint16x8_t",
+        Symbol::Type(TypeWord::Whole(CType::Neon(NeonLane::U16, true))),
+    ),
+    (
+        b"uint32x4_t",
+        Symbol::Type(TypeWord::Whole(CType::Neon(NeonLane::U32, true))),
+    ),
+    (
+        b"uint64x2_t",
+        Symbol::Type(TypeWord::Whole(CType::Neon(NeonLane::U64, true))),
+    ),
+    (
+        b"int8x16_t",
+        Symbol::Type(TypeWord::Whole(CType::Neon(NeonLane::S8, true))),
+    ),
+    (
+        b"int16x8_t",
+        Symbol::Type(TypeWord::Whole(CType::Neon(NeonLane::S16, true))),
+    ),
+    (
+        b"int32x4_t",
+        Symbol::Type(TypeWord::Whole(CType::Neon(NeonLane::S32, true))),
+    ),
+    (
+        b"int64x2_t",
+        Symbol::Type(TypeWord::Whole(CType::Neon(NeonLane::S64, true))),
+    ),
+    (b"uint8x16x2_t", Symbol::Type(TypeWord::Whole(CType::Pair))),
+];
+
+static OTHER_WORDS: [(&[u8], Symbol); 5] = [
+    (b"sizeof", Symbol::Sign(Sign::SizeOf)),
+    (b"const", Symbol::Const),
+    (b"restrict", Symbol::Restrict),
+    (b"__restrict", Symbol::Restrict),
+    (b"__restrict__", Symbol::Restrict),
+];
+
+static KEYWORDS: [&[u8]; 18] = [
+    b"auto",
+    b"break",
+    b"case",
+    b"continue",
+    b"default",
+    b"do",
+    b"double",
+    b"else",
+    b"enum",
+    b"extern",
+    b"float",
+    b"for",
+    b"goto",
+    b"if",
+    b"inline",
+    b"register",
+    b"return",
+    b"static",
+];
+
+static LATER_KEYWORDS: [&[u8]; 18] = [
+    b"struct",
+    b"switch",
+    b"typedef",
+    b"union",
+    b"volatile",
+    b"while",
+    b"_Alignas",
+    b"_Alignof",
+    b"_Atomic",
+    b"_Complex",
+    b"_Generic",
+    b"_Imaginary",
+    b"_Noreturn",
+    b"_Static_assert",
+    b"_Thread_local",
+    b"__inline",
+    b"__inline__",
+    b"__attribute__",
+];
+
+// The symbol beside a word in a table.
+fn find(text: &[u8], rows: &[(&[u8], Symbol)]) -> Option<Symbol>
+    ensures { result ≡ lookup (bytes_eq text.now) (map (λ r. (r.0.now, r.1)) rows.now) }
+{
+    let mut left = rows;
+    while let [row, rest @ ..] = left {
+        if text == row.0 {
+            return Some(row.1);
+        }
+        left = rest;
+    }
+    None
+}
+
+fn is_among(word: &[u8], words: &[&[u8]]) -> bool
+    ensures { result ≡ list_any (λ w. bytes_eq word.now w.now) words.now }
+{
+    words.iter().any(|w| word == *w)
+}
+
+fn type_symbol(text: &[u8]) -> Option<Symbol>
+    ensures { result ≡ lookup (bytes_eq text.now) type_words }
+{
+    find(text, &TYPE_WORDS)
+}
+
+fn x86_symbol(text: &[u8]) -> Option<Symbol>
+    ensures { result ≡ lookup (bytes_eq text.now) x86_vectors }
+{
+    find(text, &X86_VECTORS)
+}
+
+fn neon_symbol(text: &[u8]) -> Option<Symbol>
+    ensures { result ≡ lookup (bytes_eq text.now) neon_vectors }
+{
+    find(text, &NEON_VECTORS)
+}
+
+fn other_symbol(text: &[u8]) -> Option<Symbol>
+    ensures { result ≡ lookup (bytes_eq text.now) other_words }
+{
+    find(text, &OTHER_WORDS)
+}
+
+fn vector_symbol(dialect: Dialect, text: &[u8]) -> Option<Symbol>
+    ensures { result ≡ lookup (bytes_eq text.now) (vectors dialect) }
+{
+    match dialect {
+        Dialect::X86 => x86_symbol(text),
+        Dialect::Neon => neon_symbol(text),
+    }
+}
+
+fn is_keyword(word: &[u8]) -> bool
+    ensures { result ≡ list_any (bytes_eq word.now) keywords }
+{
+    is_among(word, &KEYWORDS)
+}
+
+fn is_later_keyword(word: &[u8]) -> bool
+    ensures { result ≡ list_any (bytes_eq word.now) later_keywords }
+{
+    is_among(word, &LATER_KEYWORDS)
+}
+
+fn name_symbol(dialect: Dialect, text: &[u8]) -> Symbol
+    ensures { result ≡ name_symbol dialect text.now }
+{
+    if let Some(symbol) = type_symbol(text) {
+        return symbol;
+    }
+    if let Some(symbol) = vector_symbol(dialect, text) {
+        return symbol;
+    }
+    if let Some(symbol) = other_symbol(text) {
+        return symbol;
+    }
+    if is_keyword(text) || is_later_keyword(text) {
+        Symbol::Other
+    } else {
+        Symbol::Name
+    }
+}
+
+/// What the grammar sees of a token.
+#[tactic(auto, unfolding(crate::specs::Symbols::symbol_of))]
+pub fn token_symbol(dialect: Dialect, token: &Token) -> Symbol
+    ensures { result ≡ symbol_of dialect token.now }
+{
+    match token.kind {
+        TokenKind::Name => name_symbol(dialect, token.text.bytes()),
+        TokenKind::Number | TokenKind::Quote => Symbol::Constant,
+        TokenKind::Mark => mark_symbol(token.text.bytes()),
+        TokenKind::Str | TokenKind::Lone => Symbol::Other,
+    }
+}
