@@ -1,6 +1,6 @@
 -- What is written is read.
-use Rattle.std.proofs.Common.{◌≡◌, ℕ, zero, suc, ◌+◌, ◌≤◌, ◌<◌, ◌⊎◌, inl, inr, List, [], ◌∷◌, ◌++◌, Option, Some, None, refl, sym, ◌∙◌, ap, arith, true, false, cond, Bool}
-use Rattle.std.proofs.lemmas.Bool.{lt-leb, le-leb, leb-true, leb-false}
+use Rattle.std.proofs.Common.{◌≡◌, ℕ, ◌+◌, ◌≤◌, ◌<◌, ◌⊎◌, inl, inr, List, [], ◌∷◌, ◌++◌, Option, Some, None, refl, sym, ◌∙◌, ap, arith, true, false, cond, Bool}
+use Rattle.std.proofs.lemmas.Bool.{lt-leb, le-leb, leb-false}
 use Rattle.std.specs.Prelude.{nat_le}
 use Rattle.c_text.specs.declared.tokens.Dialect.{Dialect}
 use Rattle.c_text.specs.declared.tokens.Token.{Token}
@@ -8,20 +8,17 @@ use Rattle.c_text.specs.declared.tokens.TokenKind.{TokenKind}
 use Rattle.c_text.specs.declared.tokens.TokenKind.TheVariants as kinds
 use Rattle.lane_core.specs.declared.number.BinOp.{BinOp}
 use Rattle.lane_core.specs.declared.number.BinOp.TheVariants as ops
-use Rattle.lane_core.specs.declared.number.IntType.{IntType}
 use Rattle.c_preproc.specs.Constant.{constant_of}
 use Rattle.c_tree.specs.declared.types.CType.{CType}
-use Rattle.c_tree.specs.Tree as trees
-use Rattle.c_tree.specs.Tree.{Tree, Kind, Trees, NoTrees, More}
+use Rattle.c_tree.specs.Tree.{Tree, Kind, More}
 use Rattle.c_parse.specs.declared.symbols.Infix.{Infix}
 use Rattle.c_parse.specs.declared.symbols.Infix.TheVariants as infixes
-use Rattle.c_parse.specs.declared.symbols.Sign.{Sign}
-use Rattle.c_parse.specs.declared.symbols.Sign.TheVariants.{Open, Close, OpenSquare, CloseSquare, Comma, Question, Colon, SizeOf}
+use Rattle.c_parse.specs.declared.symbols.Sign.TheVariants.{Open, Close, OpenSquare, CloseSquare, Comma, Question, Colon}
 use Rattle.c_parse.specs.declared.symbols.Symbol.{Symbol}
 use Rattle.c_parse.specs.declared.symbols.Symbol.TheVariants as symbols
 use Rattle.c_parse.specs.declared.types.Specifiers.{Specifiers}
 use Rattle.c_parse.specs.Symbols.{symbol_of}
-use Rattle.c_parse.specs.Reading.{◌>>=◌, or_else, front, place_at, behind, is_sign, past, node, level_of, infix_of, tight_enough, infix_at, infix_kind, assignment_of, assignment_behind, step_of, prefix_of, constant_tree, constant_at, is_name, name_front, constant_front, specify, no_specifiers, is_star, type_behind, type_front, cast_front, sequence, Goal, Answer, Assignment, Conditional, Operators, Operand, Prefixed, Base, Others, Readers, expression_with, arguments_with, others_with, choice_with, conditional_from, conditional_with, assignment_with, operators_with, operand_with, size_with, index_with, stepped, postfix_with, prefixed_with, named_with, base_with, step, read}
+use Rattle.c_parse.specs.Reading.{◌>>=◌, front, is_sign, past, level_of, infix_of, tight_enough, infix_at, assignment_of, assignment_behind, step_of, prefix_of, constant_at, is_name, name_front, specify, no_specifiers, is_star, type_behind, type_front, cast_front, Assignment, Conditional, Operators, Operand, Prefixed, Base, Others, expression_with, arguments_with, conditional_from, index_with, stepped, postfix_with, read}
 use Rattle.c_parse.specs.Grammar.{Written, Tail, Constant, Named, Bare, Call, Brackets, Index, After, Before, Prefix, SizeOfType, SizeOfName, SizeOfBracketed, Cast, Between, Choice, Assign, End, Then, Is, IsName, IsType, Fits, FitAll, spell, spell_tail, tree, comma_tree, trees_of}
 use Rattle.c_parse.proofs.Fronts.{NoSpecifier, specifiers_stop, type_read, is_name_is}
 use Rattle.c_parse.proofs.Sound.{looser, level_max, row_tree}

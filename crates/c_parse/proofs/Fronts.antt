@@ -1,15 +1,13 @@
 -- What the tests on the first token say.
-use Rattle.std.proofs.Common.{◌≡◌, ℕ, ◌+◌, ◌≤◌, ◌<◌, ◌⊎◌, inl, inr, List, [], ◌∷◌, ◌++◌, get_or, ◌==◌, Option, Some, None, refl, sym, ◌∙◌, ap, arith, Bool, true, false, cond}
-use Rattle.std.proofs.lemmas.Bool.{lt-leb, le-leb, leb-true, leb-false, eqb-true}
+use Rattle.std.proofs.Common.{◌≡◌, ℕ, ◌≤◌, ◌⊎◌, inl, inr, List, [], ◌∷◌, ◌++◌, get_or, ◌==◌, Option, Some, None, refl, sym, ◌∙◌, ap, Bool, true, false, cond}
+use Rattle.std.proofs.lemmas.Bool.{leb-true, eqb-true}
 use Rattle.std.specs.Prelude.{nat_le}
 use Rattle.c_text.specs.declared.tokens.Dialect.{Dialect}
 use Rattle.c_text.specs.declared.tokens.Token.{Token}
-use Rattle.lane_core.specs.declared.number.BinOp.TheVariants as ops
 use Rattle.lane_core.specs.declared.number.BinOp.{BinOp}
 use Rattle.c_tree.specs.declared.types.CType.{CType}
-use Rattle.c_tree.specs.Tree.{Tree, Kind, Trees}
+use Rattle.c_tree.specs.Tree.{Tree}
 use Rattle.c_parse.specs.declared.symbols.Infix.{Infix}
-use Rattle.c_parse.specs.declared.symbols.Infix.TheVariants as infixes
 use Rattle.c_parse.specs.declared.symbols.Sign.{Sign}
 use Rattle.c_parse.specs.declared.symbols.Sign.TheVariants.{Open, Close, OpenSquare, CloseSquare, Comma, Question, Colon, SizeOf}
 use Rattle.c_parse.specs.declared.symbols.Symbol.{Symbol}
@@ -17,7 +15,7 @@ use Rattle.c_parse.specs.declared.symbols.Symbol.TheVariants as symbols
 use Rattle.c_parse.specs.declared.types.Specifiers.{Specifiers}
 use Rattle.c_parse.specs.Symbols.{symbol_of}
 use Rattle.c_parse.specs.Types.{base_of, pointer_to}
-use Rattle.c_parse.specs.Reading.{◌>>=◌, or_else, front, behind, code, is_sign, past, level_of, infix_of, tight_enough, infix_at, assignment_of, step_of, is_name, name_front, constant_front, constant_at, specify, specifiers_front, no_specifiers, is_qualifier, past_qualifiers, is_star, with_rest, type_behind, type_front, cast_front}
+use Rattle.c_parse.specs.Reading.{◌>>=◌, or_else, front, behind, code, is_sign, past, level_of, infix_of, tight_enough, infix_at, assignment_of, step_of, is_name, name_front, constant_front, constant_at, specify, specifiers_front, no_specifiers, is_qualifier, past_qualifiers, is_star, with_rest, type_behind, type_front}
 use Rattle.c_parse.specs.Grammar.{Is, IsName, IsType}
 
 pub bind_some : {A B : Type 0} (o : Option A) (f : A → Option B) (y : B) → (o >>= f) ≡ Some y → (x : A) × (o ≡ Some x) × (f x ≡ Some y)

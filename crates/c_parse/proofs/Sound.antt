@@ -1,6 +1,6 @@
 -- What is read was written so.
-use Rattle.std.proofs.Common.{◌≡◌, ℕ, zero, suc, ◌+◌, ◌≤◌, ◌<◌, ◌⊎◌, inl, inr, List, [], ◌∷◌, ◌++◌, Option, Some, None, refl, sym, ◌∙◌, ap, arith, true, false, cond, Bool}
-use Rattle.std.proofs.lemmas.Bool.{lt-leb, le-leb, leb-true, leb-false}
+use Rattle.std.proofs.Common.{◌≡◌, ℕ, zero, suc, ◌+◌, ◌≤◌, ◌<◌, inl, inr, List, ◌∷◌, ◌++◌, Option, Some, None, refl, sym, ◌∙◌, ap, arith, true, false, cond, Bool}
+use Rattle.std.proofs.lemmas.Bool.{lt-leb, leb-false}
 use Rattle.std.specs.Prelude.{nat_le}
 use Rattle.c_text.specs.declared.tokens.Dialect.{Dialect}
 use Rattle.c_text.specs.declared.tokens.Token.{Token}
@@ -11,13 +11,11 @@ use Rattle.c_tree.specs.Tree as trees
 use Rattle.c_tree.specs.Tree.{Tree, Kind, Trees, NoTrees, More}
 use Rattle.c_parse.specs.declared.symbols.Infix.{Infix}
 use Rattle.c_parse.specs.declared.symbols.Infix.TheVariants as infixes
-use Rattle.c_parse.specs.declared.symbols.Sign.{Sign}
 use Rattle.c_parse.specs.declared.symbols.Sign.TheVariants.{Open, Close, OpenSquare, CloseSquare, Comma, Question, Colon, SizeOf}
-use Rattle.c_parse.specs.declared.symbols.Symbol.{Symbol}
 use Rattle.c_parse.specs.declared.symbols.Symbol.TheVariants as symbols
 use Rattle.c_parse.specs.Symbols.{symbol_of}
-use Rattle.c_parse.specs.Reading.{◌>>=◌, or_else, front, place_at, behind, past, node, level_of, infix_of, tight_enough, infix_at, infix_kind, assignment_of, assignment_behind, step_of, prefix_of, name_front, constant_front, type_front, cast_front, sequence, Goal, Answer, Assignment, Conditional, Operators, Operand, Prefixed, Base, Others, Readers, expression_with, arguments_with, others_with, choice_with, conditional_from, conditional_with, assignment_with, operators_with, operand_with, size_with, index_with, stepped, postfix_with, prefixed_with, named_with, base_with, step, read_at}
-use Rattle.c_parse.specs.Grammar.{Written, Tail, Constant, Named, Bare, Call, Brackets, Index, After, Before, Prefix, SizeOfType, SizeOfName, SizeOfBracketed, Cast, Between, Choice, Assign, End, Then, Is, IsName, IsType, Fits, FitAll, spell, spell_tail, tree, comma_tree, trees_of}
+use Rattle.c_parse.specs.Reading.{or_else, front, place_at, behind, past, node, level_of, infix_of, tight_enough, infix_at, infix_kind, assignment_of, assignment_behind, step_of, prefix_of, name_front, constant_front, type_front, cast_front, sequence, Goal, Answer, Assignment, Conditional, Operators, Operand, Prefixed, Base, Others, Readers, expression_with, arguments_with, others_with, choice_with, conditional_from, conditional_with, assignment_with, operators_with, operand_with, size_with, index_with, stepped, postfix_with, prefixed_with, named_with, base_with, step, read_at}
+use Rattle.c_parse.specs.Grammar.{Written, Tail, Constant, Named, Bare, Call, Brackets, Index, After, Before, Prefix, SizeOfType, SizeOfName, SizeOfBracketed, Cast, Between, Choice, Assign, End, Then, Is, IsName, Fits, FitAll, spell, spell_tail, tree, comma_tree, trees_of}
 use Rattle.c_parse.proofs.Fronts.{bind_some, or_else_cases, past_is, name_is, constant_is, front_is, assignment_is, step_is, infix_is, type_is}
 
 -- ts is written as an expression of this level that means t, and then us

@@ -1,15 +1,14 @@
 -- With enough depth the answer doesn't depend on it, so that reading has equations without it.
-use Rattle.std.proofs.Common.{◌≡◌, ℕ, zero, suc, ◌+◌, ◌*◌, ◌≤◌, ◌<◌, List, [], ◌∷◌, ◌++◌, length, Option, Some, None, refl, sym, ◌∙◌, ap, arith}
+use Rattle.std.proofs.Common.{◌≡◌, ℕ, zero, suc, ◌+◌, ◌*◌, ◌≤◌, ◌<◌, List, [], ◌∷◌, ◌++◌, length, Option, Some, None, refl, ◌∙◌, ap, arith}
 use Rattle.c_text.specs.declared.tokens.Dialect.{Dialect}
 use Rattle.c_text.specs.declared.tokens.Token.{Token}
 use Rattle.c_tree.specs.declared.types.CType.{CType}
-use Rattle.c_tree.specs.Tree.{Tree, Trees, NoTrees}
-use Rattle.c_parse.specs.declared.symbols.Infix.{Infix}
+use Rattle.c_tree.specs.Tree.{Tree, Trees}
 use Rattle.c_parse.specs.declared.symbols.Sign.{Sign}
-use Rattle.c_parse.specs.declared.symbols.Sign.TheVariants.{Open, Close, OpenSquare, CloseSquare, Comma, Question, Colon, SizeOf}
+use Rattle.c_parse.specs.declared.symbols.Sign.TheVariants.{Open, Close, OpenSquare, Comma, Question, Colon, SizeOf}
 use Rattle.c_parse.specs.declared.symbols.Symbol.{Symbol}
 use Rattle.c_parse.specs.declared.symbols.Symbol.TheVariants as symbols
-use Rattle.c_parse.specs.Reading.{◌>>=◌, or_else, front, place_at, behind, past, node, level_of, infix_at, infix_kind, assignment_of, assignment_behind, step_of, prefix_of, name_front, constant_front, type_front, cast_front, Goal, Answer, Assignment, Conditional, Operators, Operand, Prefixed, Base, Others, Readers, expression_with, arguments_with, others_with, choice_with, conditional_from, conditional_with, assignment_with, operators_with, operand_with, size_with, index_with, postfix_with, prefixed_with, named_with, base_with, step, read_at, rank, weight, read}
+use Rattle.c_parse.specs.Reading.{◌>>=◌, or_else, front, place_at, behind, past, node, level_of, infix_at, infix_kind, assignment_behind, step_of, prefix_of, name_front, constant_front, type_front, cast_front, Goal, Assignment, Conditional, Operators, Operand, Prefixed, Base, Others, Readers, expression_with, arguments_with, others_with, choice_with, conditional_from, conditional_with, assignment_with, operators_with, operand_with, index_with, postfix_with, prefixed_with, base_with, step, read_at, rank, weight, read}
 use Rattle.c_parse.specs.Grammar.{Written, Tail, Constant, Named, Bare, Call, Brackets, Index, After, Before, Prefix, SizeOfType, SizeOfName, SizeOfBracketed, Cast, Between, Choice, Assign, End, Then, spell, spell_tail}
 use Rattle.c_parse.proofs.Fronts.{bind_some, past_is, name_is, front_is, infix_is, type_is}
 use Rattle.c_parse.proofs.Sound.{Wrote, WroteTail, Sound, sound, level_max, none_past}

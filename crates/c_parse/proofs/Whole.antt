@@ -1,10 +1,10 @@
 -- What holds of whole lists of tokens.
-use Rattle.std.proofs.Common.{◌≡◌, List, [], ◌∷◌, Option, Some, None, refl, sym, ◌∙◌, ap}
+use Rattle.std.proofs.Common.{◌≡◌, List, [], Option, Some, sym, ◌∙◌, ap}
 use Rattle.c_text.specs.declared.tokens.Dialect.{Dialect}
 use Rattle.c_text.specs.declared.tokens.Token.{Token}
 use Rattle.c_tree.specs.Tree.{Tree}
 use Rattle.c_parse.specs.Reading.{or_else, expression_with, read}
-use Rattle.c_parse.specs.Grammar.{Expression, spell, spell_tail}
+use Rattle.c_parse.specs.Grammar.{Expression}
 use Rattle.c_parse.proofs.Sound.{sound_row}
 use Rattle.c_parse.proofs.Stable.{read_sound}
 use Rattle.c_parse.proofs.Complete.{nothing_ends, row_complete}

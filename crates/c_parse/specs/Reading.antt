@@ -5,10 +5,9 @@ use Rattle.std.proofs.lemmas.Float.{T_from_true}
 use Rattle.c_text.specs.declared.tokens.Dialect.{Dialect}
 use Rattle.c_text.specs.declared.tokens.Place.{Place}
 use Rattle.c_text.specs.declared.tokens.Token.{Token}
-use Rattle.lane_core.specs.IntRange.{InRange, least, greatest}
+use Rattle.lane_core.specs.IntRange.{least, greatest}
 use Rattle.lane_core.specs.declared.number.BinOp.{BinOp}
 use Rattle.lane_core.specs.declared.number.BinOp.TheVariants as ops
-use Rattle.lane_core.specs.declared.number.UnOp.{UnOp}
 use Rattle.lane_core.specs.declared.number.UnOp.TheVariants.{Plus, Neg, BitNot, Not}
 use Rattle.lane_core.specs.declared.number.IntType.{IntType}
 use Rattle.lane_core.specs.declared.number.Num.{Num}

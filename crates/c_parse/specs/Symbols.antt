@@ -1,5 +1,5 @@
 -- What the grammar sees of a token: the marks and the words of C11 6.4.1 and 6.4.6, and the types' names.
-use Rattle.std.specs.Prelude.{ℕ, List, [], ◌∷◌, codes, bytes_eq, Bool, true, false, ◌||◌, if◌then◌else◌, Option, Some, None, unwrap_or}
+use Rattle.std.specs.Prelude.{ℕ, List, [], ◌∷◌, codes, bytes_eq, true, false, ◌||◌, if◌then◌else◌, Option, Some, None, unwrap_or}
 use Rattle.std.specs.List.{list_any}
 use Rattle.std.specs.Map.{lookup}
 use Rattle.c_text.specs.declared.tokens.Dialect.{Dialect}
@@ -14,7 +14,6 @@ use Rattle.lane_core.specs.declared.vector.NeonLane.TheVariants.{U8, U16, U32, U
 use Rattle.c_tree.specs.declared.types.CType.TheVariants as ctypes
 use Rattle.c_parse.specs.declared.symbols.Infix.{Infix}
 use Rattle.c_parse.specs.declared.symbols.Infix.TheVariants.{Operator, AndThen, OrElse}
-use Rattle.c_parse.specs.declared.symbols.Sign.{Sign}
 use Rattle.c_parse.specs.declared.symbols.Sign.TheVariants.{Open, Close, OpenSquare, CloseSquare, Comma, Question, Colon, SizeOf}
 use Rattle.c_parse.specs.declared.symbols.Part.TheVariants as parts
 use Rattle.c_parse.specs.declared.symbols.TypeWord.TheVariants as words

@@ -1,21 +1,14 @@
 -- Names of types (C11 6.7.2p2, 6.7.3 and 6.7.7). The words of an integer type's name stand in any order.
-use Rattle.std.specs.Prelude.{◌≡◌, ℕ, ◌+◌, List, [], ◌∷◌, Bool, true, false, not, nat_lt, ◌==◌, ◌&&◌, ◌||◌, if◌then◌else◌, Option, Some, None}
-use Rattle.c_text.specs.declared.tokens.Dialect.{Dialect}
-use Rattle.c_text.specs.declared.tokens.Token.{Token}
-use Rattle.lane_core.specs.declared.number.BinOp.TheVariants.{Mul}
+use Rattle.std.specs.Prelude.{ℕ, ◌+◌, Bool, not, nat_lt, ◌==◌, ◌&&◌, ◌||◌, if◌then◌else◌, Option, Some, None}
 use Rattle.lane_core.specs.declared.number.IntType.{IntType}
 use Rattle.lane_core.specs.declared.number.IntType.TheVariants as ints
 use Rattle.lane_core.specs.declared.vector.Pointee.TheVariants as pointees
 use Rattle.c_tree.specs.declared.types.CType.{CType}
 use Rattle.c_tree.specs.declared.types.CType.TheVariants as ctypes
-use Rattle.c_parse.specs.declared.symbols.Infix.TheVariants.{Operator}
 use Rattle.c_parse.specs.declared.symbols.Part.TheVariants as parts
 use Rattle.c_parse.specs.declared.symbols.TypeWord.{TypeWord}
 use Rattle.c_parse.specs.declared.symbols.TypeWord.TheVariants as words
-use Rattle.c_parse.specs.declared.symbols.Symbol.{Symbol}
-use Rattle.c_parse.specs.declared.symbols.Symbol.TheVariants as symbols
 use Rattle.c_parse.specs.declared.types.Specifiers.{Specifiers}
-use Rattle.c_parse.specs.Symbols.{symbol_of}
 
 -- one more, up to three, which is too often for each word
 abbrev pub more : ℕ → ℕ

@@ -7,4 +7,7 @@ mod types;
 
 pub use laws::{one_expression, read_from_left_to_right};
 pub use symbols::{Infix, Part, Sign, Symbol, TypeWord, token_symbol};
-pub use types::{Specifiers, base, counted, pointer};
+pub use types::{Specifiers, base, counted, no_specifiers, pointer, with_const};
+
+#[cfg(test)]
+mod tests;

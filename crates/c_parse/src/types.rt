@@ -1,6 +1,7 @@
 //! Names of types (C11 6.7.2, 6.7.3 and 6.7.7).
 
-ghost use Rattle.std.specs.Prelude.{◌≡◌};
+ghost use Rattle.std.specs.Prelude.{◌≡◌, true};
+ghost use Rattle.c_parse.specs.Reading.{no_specifiers};
 ghost use Rattle.c_parse.specs.Types.{more, counted, integer_of, plain_integer_of, base_of, pointer_to};
 
 use crate::symbols::{Part, TypeWord};
@@ -19,6 +20,33 @@ pub struct Specifiers {
     pub wholes: u8,
     pub whole: CType,
     pub constant: bool,
+}
+
+/// No words.
+pub fn no_specifiers() -> Specifiers
+    ensures { result ≡ no_specifiers }
+{
+    Specifiers {
+        char: 0,
+        short: 0,
+        int: 0,
+        long: 0,
+        signed: 0,
+        unsigned: 0,
+        wholes: 0,
+        whole: CType::Void,
+        constant: false,
+    }
+}
+
+/// Specifiers with a `const`.
+pub fn with_const(words: Specifiers) -> Specifiers
+    ensures { result ≡ record words { constant = true } }
+{
+    Specifiers {
+        constant: true,
+        ..words
+    }
 }
 
 fn more(n: u8) -> u8

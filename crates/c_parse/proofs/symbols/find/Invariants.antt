@@ -1,4 +1,4 @@
-use Rattle.std.proofs.Common.{◌≡◌, List, map, bytes_eq, length}
+use Rattle.std.proofs.Common.{◌≡◌, map, bytes_eq, length}
 use Rattle.std.specs.Map.{lookup}
 use Rattle.c_parse.proofs.symbols.find.Given as goal
 
