@@ -1,0 +1,105 @@
+//! The table of Intel rows: names, signatures, immediates, accesses and values.
+#![tactic(auto)]
+
+ghost use Rattle.std.specs.Prelude.{◌≡◌, ◌<◌, ◌↔◌, IsNone, IfSome, Contains, Some};
+ghost use Rattle.lane_core.specs.Table.{Fits, InImmRange};
+ghost use Rattle.intel_table.specs.declared.IntelOp.{IntelOp};
+ghost use Rattle.intel_table.specs.Rows.{names, find_of, name_of, signature_of, range_of, accesses_of, access_of, eval_of};
+
+use intel_base::BaseOp;
+use lane_core::table::{Access, Arg, ImmRange, Sig};
+
+mod base;
+mod kinds;
+mod rules;
+mod x86_rows;
+
+pub use x86_rows::X86Rows;
+
+/// A row of the table. Two values are equal exactly where their names are.
+#[derive(Clone, Copy, Debug, PartialEq, Eq)]
+pub struct IntelOp {
+    row: Group,
+}
+
+/// A row, by the group that has it.
+#[derive(Clone, Copy, Debug, PartialEq, Eq)]
+enum Group {
+    Base(BaseOp),
+}
+
+/// The row of that name, as `_mm_add_epi8`, or None exactly where the list has no such name.
+pub fn find(name: &[u8]) -> Option<IntelOp>
+    ensures value { result ≡ find_of name.now }
+    ensures named { IfSome result (λ op. name_of op ≡ name.now) }
+    ensures none { IsNone result ↔ ¬ (Contains names name.now) }
+{
+    match base::find(name) {
+        Some(row) => Some(IntelOp {
+            row: Group::Base(row),
+        }),
+        None => None,
+    }
+}
+
+/// The row's name. `find` gives the row for it, and no other row has it.
+pub fn name(op: IntelOp) -> &'static str
+    ensures value { result.now ≡ name_of op }
+    ensures found { find_of (name_of op) ≡ Some op }
+    ensures alone { (other : IntelOp) → name_of other ≡ name_of op → other ≡ op }
+{
+    match op.row {
+        Group::Base(row) => base::name(row),
+    }
+}
+
+/// The kinds of the row's parameters and result.
+pub fn signature(op: IntelOp) -> Sig
+    ensures { result ≡ signature_of op }
+{
+    match op.row {
+        Group::Base(row) => base::signature(row),
+    }
+}
+
+/// The values that the row's immediate may have.
+pub fn range(op: IntelOp) -> ImmRange
+    ensures { result ≡ range_of op }
+{
+    match op.row {
+        Group::Base(row) => base::range(row),
+    }
+}
+
+/// The number of the row's accesses to memory.
+pub fn accesses(op: IntelOp) -> usize
+    ensures { result ≡ accesses_of op }
+{
+    match op.row {
+        Group::Base(row) => base::accesses(row),
+    }
+}
+
+/// Access `k` of the row, or None where the mask among `args` keeps it away.
+pub fn access(op: IntelOp, args: &[Arg], imm: u16, k: usize) -> Option<Access>
+    requires place { k < accesses_of op }
+    ensures { result ≡ access_of op args.now imm k }
+{
+    match op.row {
+        Group::Base(row) => base::access(row, args, imm, k),
+    }
+}
+
+/// The row's value, by the operation that the Intel Intrinsics Guide gives for it.
+pub fn eval(op: IntelOp, args: &[Arg], imm: u16) -> Arg
+    requires fit { Fits (signature_of op) args.now }
+    requires immediate { InImmRange (range_of op) imm }
+    ensures { result ≡ eval_of op args.now imm }
+{
+    match op.row {
+        Group::Base(row) => base::eval(row, args, imm),
+    }
+}
+
+#[cfg(test)]
+mod tests;
