@@ -1,4 +1,4 @@
--- What holds of each row of intel_base.
+-- What holds of each row of intel_base. A law names one row, so that its last line stands for each of the others and is checked at each.
 use Rattle.std.proofs.Common.{◌≡◌, ℕ, ◌≤◌, List, [], ◌∷◌, length, find, Some, arith, refl, inl, inr}
 use Rattle.lane_core.specs.Register.{IsRegister}
 use Rattle.lane_core.specs.declared.table.Arg.{Arg}

@@ -12,13 +12,13 @@ use Rattle.intel_table.specs.declared.IntelOp.{IntelOp}
 use Rattle.intel_table.specs.declared.Group.{Group}
 use Rattle.intel_table.specs.declared.Group.TheVariants.{Base}
 use Rattle.intel_table.specs.BaseRows.{base_row, base_rows}
-use Rattle.intel_table.specs.Rows.{group_row, base, rows, names, name_of, find_of, signature_of, range_of, eval_of}
+use Rattle.intel_table.specs.Rows.{group_row, of_base, rows, names, name_of, find_of, signature_of, range_of, eval_of}
 use Rattle.intel_table.specs.BaseLaws.{base_counts, base_gives, base_found}
 
 -- a group's row is found where the group finds it
-pub find_by_group : (name : List ℕ) (r : Option BaseOp) → r ≡ find (λ op. same_name (base_row op).name name) base_rows → option_map base r ≡ find_of name
+pub find_by_group : (name : List ℕ) (r : Option BaseOp) → r ≡ find (λ op. same_name (base_row op).name name) base_rows → option_map of_base r ≡ find_of name
 unfolding find_of
-find_by_group name r e = ap (option_map base) e ∙ sym (find_rows (λ op. (base_row op).name) base name_of name base_rows refl)
+find_by_group name r e = ap (option_map of_base) e ∙ sym (find_rows (λ op. (base_row op).name) of_base name_of name base_rows refl)
 
 -- the row that is found has the name
 pub found_has_its_name : (name : List ℕ) (r : Option IntelOp) → r ≡ find_of name → IfSome r (λ op. name_of op ≡ name)

@@ -20,12 +20,13 @@ group_row (Base op) = base_row op
 abbrev pub row_at : IntelOp → Row
 row_at op = group_row op.row
 
-abbrev pub base : BaseOp → IntelOp
-base op = record { row = Base op }
+-- the row of the table that a row of intel_base is
+abbrev pub of_base : BaseOp → IntelOp
+of_base op = record { row = Base op }
 
--- the rows that have a name in the list
+-- the list, group by group
 abbrev pub rows : List IntelOp
-rows = map base base_rows
+rows = map of_base base_rows
 
 -- the bytes of the row's name
 abbrev pub name_of : IntelOp → List ℕ

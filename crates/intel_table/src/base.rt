@@ -1,6 +1,6 @@
 //! The group of the rows of `intel_base`.
 
-ghost use Rattle.std.specs.Prelude.{◌≡◌, ◌<◌, find};
+ghost use Rattle.std.specs.Prelude.{◌≡◌, find};
 ghost use Rattle.row_names.specs.Names.{same_name};
 ghost use Rattle.intel_table.specs.BaseRows.{base_row, base_rows};
 

@@ -2,7 +2,7 @@
 
 ghost use Rattle.std.specs.Prelude.{◌≡◌};
 ghost use Rattle.lane_core.specs.Table.{Fits, InImmRange};
-ghost use Rattle.intel_table.specs.Rows.{base};
+ghost use Rattle.intel_table.specs.Rows.{of_base};
 
 use super::*;
 use lane_core::known_bytes;
@@ -34,8 +34,8 @@ const EXCLUSIVE: [u8; 16] = [
     0, 254, 3, 255, 0, 254, 1, 0, 255, 255, 0, 1, 255, 255, 224, 172,
 ];
 
-fn of_base(row: BaseOp) -> IntelOp
-    ensures { result ≡ base row }
+fn base_row(row: BaseOp) -> IntelOp
+    ensures { result ≡ of_base row }
 {
     IntelOp {
         row: Group::Base(row),
@@ -60,7 +60,7 @@ fn rows_are_found_by_their_names(rt: HostRuntime) {
         ("_mm_xor_si128", BaseOp::XorSi128, "_mm_xor_si256"),
     ];
     for (text, row, near) in listed {
-        let op = of_base(row);
+        let op = base_row(row);
         assert_eq!(rt; find(text.as_bytes()), Some(op));
         assert_eq!(rt; find(near.as_bytes()), None);
         assert_eq!(rt; X86Rows.find(text.as_bytes()), Some(op));
@@ -83,18 +83,18 @@ fn rows_have_the_listed_values(rt: HostRuntime) {
     known_bytes(&A);
     known_bytes(&B);
     let args = [Arg::R16(A), Arg::R16(B)];
-    assert_eq!(rt; eval(of_base(BaseOp::AddEpi8), &args, 0), Arg::R16(SUMS));
+    assert_eq!(rt; eval(base_row(BaseOp::AddEpi8), &args, 0), Arg::R16(SUMS));
     assert_eq!(rt;
-        eval(of_base(BaseOp::SubEpi8), &args, 0),
+        eval(base_row(BaseOp::SubEpi8), &args, 0),
         Arg::R16(DIFFERENCES)
     );
     assert_eq!(rt;
-        eval(of_base(BaseOp::AvgEpu8), &args, 0),
+        eval(base_row(BaseOp::AvgEpu8), &args, 0),
         Arg::R16(AVERAGES)
     );
-    assert_eq!(rt; eval(of_base(BaseOp::MinEpu8), &args, 0), Arg::R16(LESSER));
+    assert_eq!(rt; eval(base_row(BaseOp::MinEpu8), &args, 0), Arg::R16(LESSER));
     assert_eq!(rt;
-        value(&X86Rows, of_base(BaseOp::XorSi128), &args),
+        value(&X86Rows, base_row(BaseOp::XorSi128), &args),
         Arg::R16(EXCLUSIVE)
     );
 }

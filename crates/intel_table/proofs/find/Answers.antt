@@ -1,10 +1,10 @@
 use Rattle.std.proofs.Common.{◌≡◌, Some, None}
-use Rattle.intel_table.specs.Rows.{find_of, base}
+use Rattle.intel_table.specs.Rows.{find_of, of_base}
 use Rattle.intel_table.specs.Laws.{find_by_group, found_has_its_name, none_exactly_outside}
 use Rattle.intel_table.proofs.find.Goals as goal
 use Rattle.intel_table.proofs.find.Goals.{In-Some, In-None}
 
-some : (c : In-Some) → Some (base c.in-Some.row) ≡ find_of c.args.name.now
+some : (c : In-Some) → Some (of_base c.in-Some.row) ≡ find_of c.args.name.now
 some c = find_by_group c.args.name.now (Some c.in-Some.row) c.in-Some.ensures
 
 none : (c : In-None) → None ≡ find_of c.args.name.now

@@ -1,0 +1,105 @@
+//! The table of Neon rows: names, signatures, constants, accesses and values.
+#![tactic(auto)]
+
+ghost use Rattle.std.specs.Prelude.{◌≡◌, ◌<◌, ◌↔◌, IsNone, IfSome, Contains, Some};
+ghost use Rattle.lane_core.specs.Table.{Fits, InImmRange};
+ghost use Rattle.neon_table.specs.declared.NeonOp.{NeonOp};
+ghost use Rattle.neon_table.specs.Rows.{names, find_of, name_of, signature_of, range_of, accesses_of, access_of, eval_of};
+
+use lane_core::table::{Access, Arg, ImmRange, Sig};
+use neon_lane::LaneOp;
+
+mod kinds;
+mod lane;
+mod neon_rows;
+mod rules;
+
+pub use neon_rows::NeonRows;
+
+/// A row of the table. Two values are equal exactly where their names are.
+#[derive(Clone, Copy, Debug, PartialEq, Eq)]
+pub struct NeonOp {
+    row: Group,
+}
+
+/// A row, by the group that has it.
+#[derive(Clone, Copy, Debug, PartialEq, Eq)]
+enum Group {
+    Lane(LaneOp),
+}
+
+/// The row of that name, as `vaddq_u8`, or None exactly where the list has no such name.
+pub fn find(name: &[u8]) -> Option<NeonOp>
+    ensures value { result ≡ find_of name.now }
+    ensures named { IfSome result (λ op. name_of op ≡ name.now) }
+    ensures none { IsNone result ↔ ¬ (Contains names name.now) }
+{
+    match lane::find(name) {
+        Some(row) => Some(NeonOp {
+            row: Group::Lane(row),
+        }),
+        None => None,
+    }
+}
+
+/// The row's name. `find` gives the row for it, and no other row has it.
+pub fn name(op: NeonOp) -> &'static str
+    ensures value { result.now ≡ name_of op }
+    ensures found { find_of (name_of op) ≡ Some op }
+    ensures alone { (other : NeonOp) → name_of other ≡ name_of op → other ≡ op }
+{
+    match op.row {
+        Group::Lane(row) => lane::name(row),
+    }
+}
+
+/// The kinds of the row's parameters and result.
+pub fn signature(op: NeonOp) -> Sig
+    ensures { result ≡ signature_of op }
+{
+    match op.row {
+        Group::Lane(row) => lane::signature(row),
+    }
+}
+
+/// The values that the row's constant may have.
+pub fn range(op: NeonOp) -> ImmRange
+    ensures { result ≡ range_of op }
+{
+    match op.row {
+        Group::Lane(row) => lane::range(row),
+    }
+}
+
+/// The number of the row's accesses to memory.
+pub fn accesses(op: NeonOp) -> usize
+    ensures { result ≡ accesses_of op }
+{
+    match op.row {
+        Group::Lane(row) => lane::accesses(row),
+    }
+}
+
+/// Access `k` of the row.
+pub fn access(op: NeonOp, args: &[Arg], imm: u16, k: usize) -> Option<Access>
+    requires place { k < accesses_of op }
+    ensures { result ≡ access_of op args.now imm k }
+{
+    match op.row {
+        Group::Lane(row) => lane::access(row, args, imm, k),
+    }
+}
+
+/// The row's value, by the instruction that the Arm Neon Intrinsics Reference gives for it.
+pub fn eval(op: NeonOp, args: &[Arg], imm: u16) -> Arg
+    requires fit { Fits (signature_of op) args.now }
+    requires immediate { InImmRange (range_of op) imm }
+    ensures { result ≡ eval_of op args.now imm }
+{
+    match op.row {
+        Group::Lane(row) => lane::eval(row, args, imm),
+    }
+}
+
+#[cfg(test)]
+mod tests;
