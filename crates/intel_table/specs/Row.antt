@@ -18,7 +18,7 @@ pub record Row : Type 0 where
   pub scalar : Bool
   -- the number of accesses to memory
   pub accesses : ℕ
-  -- access k for these arguments and this immediate, or none where the mask among them keeps it away
+  -- access k for these arguments and this immediate; none where the mask among them keeps it away, or where there are no more than k
   pub access : List Arg → ℕ → ℕ → Option Access
   -- the value for arguments that fit and an immediate in range
   pub value : List Arg → ℕ → Arg

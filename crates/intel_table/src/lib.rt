@@ -1,7 +1,7 @@
 //! The table of Intel rows: names, signatures, immediates, accesses and values.
 #![tactic(auto)]
 
-ghost use Rattle.std.specs.Prelude.{◌≡◌, ◌<◌, ◌↔◌, IsNone, IfSome, Contains, Some};
+ghost use Rattle.std.specs.Prelude.{◌≡◌, ◌↔◌, IsNone, IfSome, Contains, Some};
 ghost use Rattle.lane_core.specs.Table.{Fits, InImmRange};
 ghost use Rattle.intel_table.specs.declared.IntelOp.{IntelOp};
 ghost use Rattle.intel_table.specs.Rows.{names, find_of, name_of, signature_of, range_of, accesses_of, access_of, eval_of};
@@ -80,9 +80,8 @@ pub fn accesses(op: IntelOp) -> usize
     }
 }
 
-/// Access `k` of the row, or None where the mask among `args` keeps it away.
+/// Access `k` of the row, or None where the mask among `args` keeps it away, or where `k` isn't below `accesses`.
 pub fn access(op: IntelOp, args: &[Arg], imm: u16, k: usize) -> Option<Access>
-    requires place { k < accesses_of op }
     ensures { result ≡ access_of op args.now imm k }
 {
     match op.row {

@@ -1,6 +1,6 @@
 //! The table as a value.
 
-ghost use Rattle.std.specs.Prelude.{false};
+ghost use Rattle.std.specs.Prelude.{◌≡◌, false};
 ghost use Rattle.intel_table.specs.Rows.{find_of, signature_of, range_of, accesses_of, access_of, eval_of};
 ghost use Rattle.intel_table.specs.Laws.{counts_parameters, gives_its_kind};
 
@@ -48,7 +48,9 @@ impl VectorTable for X86Rows {
         crate::accesses(op)
     }
 
-    fn access(&self, op: IntelOp, args: &[Arg], imm: u16, k: usize) -> Option<Access> {
+    fn access(&self, op: IntelOp, args: &[Arg], imm: u16, k: usize) -> Option<Access>
+        ensures { result ≡ access_of op args.now imm k }
+    {
         crate::access(op, args, imm, k)
     }
 

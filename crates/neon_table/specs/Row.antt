@@ -18,7 +18,7 @@ pub record Row : Type 0 where
   pub range : ImmRange
   -- the number of accesses to memory
   pub accesses : ℕ
-  -- access k for these arguments and this constant, or none
+  -- access k for these arguments and this constant; none where there are no more than k
   pub access : List Arg → ℕ → ℕ → Option Access
   -- the value for arguments that fit and a constant in range
   pub value : List Arg → ℕ → Arg
