@@ -6,6 +6,10 @@ ghost use Rattle.intel_base.specs.Rows.{lane_of, row_of};
 
 use lane_core::map2;
 
+pub mod memory;
+
+pub use memory::MemoryOp;
+
 /// A row, named after the intrinsic without its prefix `_mm_`.
 #[derive(Clone, Copy, Debug, PartialEq, Eq)]
 pub enum BaseOp {
@@ -114,6 +118,20 @@ mod tests {
         for (op, first, second) in table {
             assert_eq!(rt; eval(op, &A, &B), first, "at {op:?}");
             assert_eq!(rt; eval(op, &C, &D), second, "at {op:?}");
+        }
+    }
+
+    #[test]
+    fn bytes_are_moved_whole(rt: HostRuntime) {
+        let table = [
+            (MemoryOp::LoadSi128, 16),
+            (MemoryOp::LoaduSi128, 1),
+            (MemoryOp::StoreSi128, 16),
+            (MemoryOp::StoreuSi128, 1),
+        ];
+        for (op, align) in table {
+            assert_eq!(rt; memory::alignment(op), align, "at {op:?}");
+            assert_eq!(rt; memory::eval(op, &A), A, "at {op:?}");
         }
     }
 }
