@@ -1,8 +1,9 @@
 -- What the table tells of a row, and the kinds of rows.
-use Rattle.std.specs.Prelude.{ℕ, List, [], ◌∷◌, Bool, false, Option, None}
+use Rattle.std.specs.Prelude.{ℕ, zero, suc, pos, List, [], ◌∷◌, Bool, true, false, Option, Some, None}
 use Rattle.lane_core.specs.declared.table.Arg.{Arg}
 use Rattle.lane_core.specs.declared.table.Arg.TheVariants.{R16, Nothing}
-use Rattle.lane_core.specs.declared.table.ParamKind.TheVariants.{Reg}
+use Rattle.lane_core.specs.declared.vector.Pointee.TheVariants.{M128}
+use Rattle.lane_core.specs.declared.table.ParamKind.TheVariants as kind
 use Rattle.lane_core.specs.declared.table.ImmRange.{ImmRange}
 use Rattle.lane_core.specs.declared.table.ImmRange.TheVariants.{NoImmediate}
 use Rattle.lane_core.specs.declared.table.Sig.{Sig}
@@ -32,10 +33,44 @@ of_two_registers f _ = Nothing
 abbrev pub two_registers : List ℕ → (List ℕ → List ℕ → List ℕ) → Row
 two_registers name f = record {
   name = name;
-  signature = signature (Reg 16) (Reg 16 ∷ Reg 16 ∷ []);
+  signature = signature (kind.Reg 16) (kind.Reg 16 ∷ kind.Reg 16 ∷ []);
   range = NoImmediate;
   scalar = false;
   accesses = 0;
   access = λ args imm k. None;
   value = λ args imm. of_two_registers f args;
+}
+
+-- the one access of a row that touches 16 bytes from its pointer on; byte j of memory is byte j of the register
+abbrev pub sixteen_bytes : ℕ → Bool → ℕ → Option Access
+sixteen_bytes align write zero = Some (record { offset = pos 0; size = 16; align = align; write = write; at = 0 })
+sixteen_bytes align write (suc k) = None
+
+-- f of the register that stands beside a pointer: the bytes read, or the register that is stored
+abbrev pub of_pointer_and_register : (List ℕ → List ℕ) → List Arg → Arg
+of_pointer_and_register f (Nothing ∷ R16 r ∷ []) = R16 (f r)
+of_pointer_and_register f _ = Nothing
+
+-- `__m128i name(__m128i const *p)`: f of the 16 bytes at p, which is a multiple of align
+abbrev pub load : List ℕ → ℕ → (List ℕ → List ℕ) → Row
+load name align f = record {
+  name = name;
+  signature = signature (kind.Reg 16) (kind.PointerTo M128 true ∷ []);
+  range = NoImmediate;
+  scalar = false;
+  accesses = 1;
+  access = λ args imm k. sixteen_bytes align false k;
+  value = λ args imm. of_pointer_and_register f args;
+}
+
+-- `void name(__m128i *p, __m128i a)`: f a is stored at p, which is a multiple of align
+abbrev pub store : List ℕ → ℕ → (List ℕ → List ℕ) → Row
+store name align f = record {
+  name = name;
+  signature = signature kind.Nothing (kind.PointerTo M128 false ∷ kind.Reg 16 ∷ []);
+  range = NoImmediate;
+  scalar = false;
+  accesses = 1;
+  access = λ args imm k. sixteen_bytes align true k;
+  value = λ args imm. of_pointer_and_register f args;
 }

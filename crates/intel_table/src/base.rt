@@ -1,4 +1,4 @@
-//! The group of the rows of `intel_base`.
+//! The group of the rows of `intel_base` that work lane by lane.
 
 ghost use Rattle.std.specs.Prelude.{◌≡◌, find};
 ghost use Rattle.row_names.specs.Names.{same_name};

@@ -6,11 +6,12 @@ ghost use Rattle.lane_core.specs.Table.{Fits, InImmRange};
 ghost use Rattle.intel_table.specs.declared.IntelOp.{IntelOp};
 ghost use Rattle.intel_table.specs.Rows.{names, find_of, name_of, signature_of, range_of, accesses_of, access_of, eval_of};
 
-use intel_base::BaseOp;
+use intel_base::{BaseOp, MemoryOp};
 use lane_core::table::{Access, Arg, ImmRange, Sig};
 
 mod base;
 mod kinds;
+mod memory;
 mod rules;
 mod x86_rows;
 
@@ -26,6 +27,7 @@ pub struct IntelOp {
 #[derive(Clone, Copy, Debug, PartialEq, Eq)]
 enum Group {
     Base(BaseOp),
+    Memory(MemoryOp),
 }
 
 /// The row of that name, as `_mm_add_epi8`, or None exactly where the list has no such name.
@@ -38,11 +40,17 @@ pub fn find(name: &[u8]) -> Option<IntelOp>
         Some(row) => Some(IntelOp {
             row: Group::Base(row),
         }),
-        None => None,
+        None => match memory::find(name) {
+            Some(row) => Some(IntelOp {
+                row: Group::Memory(row),
+            }),
+            None => None,
+        },
     }
 }
 
 /// The row's name. `find` gives the row for it, and no other row has it.
+#[tactic(auto, using(crate::specs::Laws::found_by_name, crate::specs::Laws::same_by_name))]
 pub fn name(op: IntelOp) -> &'static str
     ensures value { result.now ≡ name_of op }
     ensures found { find_of (name_of op) ≡ Some op }
@@ -50,6 +58,7 @@ pub fn name(op: IntelOp) -> &'static str
 {
     match op.row {
         Group::Base(row) => base::name(row),
+        Group::Memory(row) => memory::name(row),
     }
 }
 
@@ -59,6 +68,7 @@ pub fn signature(op: IntelOp) -> Sig
 {
     match op.row {
         Group::Base(row) => base::signature(row),
+        Group::Memory(row) => memory::signature(row),
     }
 }
 
@@ -68,6 +78,7 @@ pub fn range(op: IntelOp) -> ImmRange
 {
     match op.row {
         Group::Base(row) => base::range(row),
+        Group::Memory(row) => memory::range(row),
     }
 }
 
@@ -77,6 +88,7 @@ pub fn accesses(op: IntelOp) -> usize
 {
     match op.row {
         Group::Base(row) => base::accesses(row),
+        Group::Memory(row) => memory::accesses(row),
     }
 }
 
@@ -86,6 +98,7 @@ pub fn access(op: IntelOp, args: &[Arg], imm: u16, k: usize) -> Option<Access>
 {
     match op.row {
         Group::Base(row) => base::access(row, args, imm, k),
+        Group::Memory(row) => memory::access(row, args, imm, k),
     }
 }
 
@@ -97,6 +110,7 @@ pub fn eval(op: IntelOp, args: &[Arg], imm: u16) -> Arg
 {
     match op.row {
         Group::Base(row) => base::eval(row, args, imm),
+        Group::Memory(row) => memory::eval(row, args, imm),
     }
 }
 

@@ -43,7 +43,7 @@ macro_rules! accesses_of_row {
 macro_rules! access_of_row {
     ($type:ident $op:ident $args:ident $imm:ident $k:ident; $($name:literal, $row:ident, $kind:ident, $range:expr, $accesses:literal;)*) => {
         match $op {
-            $($type::$row => $kind::access($args, $imm, $k),)*
+            $($type::$row => $kind::access($op, $args, $imm, $k),)*
         }
     };
 }

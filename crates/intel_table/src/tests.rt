@@ -2,7 +2,7 @@
 
 ghost use Rattle.std.specs.Prelude.{◌≡◌};
 ghost use Rattle.lane_core.specs.Table.{Fits, InImmRange};
-ghost use Rattle.intel_table.specs.Rows.{of_base};
+ghost use Rattle.intel_table.specs.Rows.{of_base, of_memory};
 
 use super::*;
 use lane_core::known_bytes;
@@ -39,6 +39,14 @@ fn base_row(row: BaseOp) -> IntelOp
 {
     IntelOp {
         row: Group::Base(row),
+    }
+}
+
+fn memory_row(row: MemoryOp) -> IntelOp
+    ensures { result ≡ of_memory row }
+{
+    IntelOp {
+        row: Group::Memory(row),
     }
 }
 
@@ -96,5 +104,89 @@ fn rows_have_the_listed_values(rt: HostRuntime) {
     assert_eq!(rt;
         value(&X86Rows, base_row(BaseOp::XorSi128), &args),
         Arg::R16(EXCLUSIVE)
+    );
+}
+
+#[test]
+fn memory_rows_touch_sixteen_bytes(rt: HostRuntime) {
+    known_bytes(&A);
+    let args = [Arg::Nothing, Arg::R16(A)];
+    let listed = [
+        (
+            "_mm_load_si128",
+            MemoryOp::LoadSi128,
+            "_mm_load_si256",
+            16,
+            false,
+        ),
+        (
+            "_mm_loadu_si128",
+            MemoryOp::LoaduSi128,
+            "_mm_loadu_si12",
+            1,
+            false,
+        ),
+        (
+            "_mm_store_si128",
+            MemoryOp::StoreSi128,
+            "_mm_store_si1281",
+            16,
+            true,
+        ),
+        (
+            "_mm_storeu_si128",
+            MemoryOp::StoreuSi128,
+            "_mm_storeu_si256",
+            1,
+            true,
+        ),
+    ];
+    for (text, row, near, align, write) in listed {
+        let op = memory_row(row);
+        assert_eq!(rt; find(text.as_bytes()), Some(op));
+        assert_eq!(rt; find(near.as_bytes()), None);
+        assert_eq!(rt; name(op), text);
+        let sig = signature(op);
+        assert_eq!(rt; sig.count, if write { 2 } else { 1 });
+        assert_eq!(rt;
+            sig.result,
+            if write {
+                ParamKind::Nothing
+            } else {
+                ParamKind::Reg(16)
+            }
+        );
+        assert_eq!(rt; range(op), ImmRange::NoImmediate);
+        assert_eq!(rt; accesses(op), 1);
+        let whole = Access {
+            offset: 0,
+            size: 16,
+            align,
+            write,
+            at: 0,
+        };
+        assert_eq!(rt; access(op, &args, 0, 0), Some(whole));
+        assert_eq!(rt; access(op, &args, 0, 1), None);
+    }
+    let first = memory_row(MemoryOp::LoadSi128);
+    assert_eq!(rt;
+        X86Rows.access(first, &args, 0, 0),
+        access(first, &args, 0, 0)
+    );
+    assert_eq!(rt;
+        eval(memory_row(MemoryOp::LoadSi128), &args, 0),
+        Arg::R16(A)
+    );
+    assert_eq!(rt;
+        eval(memory_row(MemoryOp::LoaduSi128), &args, 0),
+        Arg::R16(A)
+    );
+    assert_eq!(rt;
+        eval(memory_row(MemoryOp::StoreSi128), &args, 0),
+        Arg::R16(A)
+    );
+    assert_eq!(rt;
+        eval(memory_row(MemoryOp::StoreuSi128), &args, 0),
+        Arg::R16(A)
     );
 }

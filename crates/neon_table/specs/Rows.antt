@@ -1,20 +1,23 @@
 -- The table of Neon rows, by the Arm Neon Intrinsics Reference. It is the list of the groups' rows, and tells of each its name, signature,
 -- range of its constant, accesses and value.
-use Rattle.std.specs.Prelude.{ℕ, List, map, find, Option}
+use Rattle.std.specs.Prelude.{ℕ, List, ◌++◌, map, find, Option}
 use Rattle.row_names.specs.Names.{same_name}
 use Rattle.lane_core.specs.declared.table.Arg.{Arg}
 use Rattle.lane_core.specs.declared.table.ImmRange.{ImmRange}
 use Rattle.lane_core.specs.declared.table.Sig.{Sig}
 use Rattle.lane_core.specs.declared.table.Access.{Access}
 use Rattle.neon_lane.specs.declared.LaneOp.{LaneOp}
+use Rattle.neon_move.specs.declared.MoveOp.{MoveOp}
 use Rattle.neon_table.specs.declared.NeonOp.{NeonOp}
 use Rattle.neon_table.specs.declared.Group.{Group}
-use Rattle.neon_table.specs.declared.Group.TheVariants.{Lane}
+use Rattle.neon_table.specs.declared.Group.TheVariants.{Lane, Move}
 use Rattle.neon_table.specs.Row.{Row}
 use Rattle.neon_table.specs.LaneRows.{lane_row, lane_rows}
+use Rattle.neon_table.specs.MoveRows.{move_row, move_rows}
 
 abbrev pub group_row : Group → Row
 group_row (Lane op) = lane_row op
+group_row (Move op) = move_row op
 
 -- what the table tells of the row
 abbrev pub row_at : NeonOp → Row
@@ -24,9 +27,13 @@ row_at op = group_row op.row
 abbrev pub of_lane : LaneOp → NeonOp
 of_lane op = record { row = Lane op }
 
+-- and that a row of neon_move is
+abbrev pub of_move : MoveOp → NeonOp
+of_move op = record { row = Move op }
+
 -- the list, group by group
 abbrev pub rows : List NeonOp
-rows = map of_lane lane_rows
+rows = map of_lane lane_rows ++ map of_move move_rows
 
 -- the bytes of the row's name
 abbrev pub name_of : NeonOp → List ℕ

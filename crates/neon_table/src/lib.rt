@@ -8,9 +8,11 @@ ghost use Rattle.neon_table.specs.Rows.{names, find_of, name_of, signature_of, r
 
 use lane_core::table::{Access, Arg, ImmRange, Sig};
 use neon_lane::LaneOp;
+use neon_move::MoveOp;
 
 mod kinds;
 mod lane;
+mod moves;
 mod neon_rows;
 mod rules;
 
@@ -26,6 +28,7 @@ pub struct NeonOp {
 #[derive(Clone, Copy, Debug, PartialEq, Eq)]
 enum Group {
     Lane(LaneOp),
+    Move(MoveOp),
 }
 
 /// The row of that name, as `vaddq_u8`, or None exactly where the list has no such name.
@@ -38,11 +41,17 @@ pub fn find(name: &[u8]) -> Option<NeonOp>
         Some(row) => Some(NeonOp {
             row: Group::Lane(row),
         }),
-        None => None,
+        None => match moves::find(name) {
+            Some(row) => Some(NeonOp {
+                row: Group::Move(row),
+            }),
+            None => None,
+        },
     }
 }
 
 /// The row's name. `find` gives the row for it, and no other row has it.
+#[tactic(auto, using(crate::specs::Laws::found_by_name, crate::specs::Laws::same_by_name))]
 pub fn name(op: NeonOp) -> &'static str
     ensures value { result.now ≡ name_of op }
     ensures found { find_of (name_of op) ≡ Some op }
@@ -50,6 +59,7 @@ pub fn name(op: NeonOp) -> &'static str
 {
     match op.row {
         Group::Lane(row) => lane::name(row),
+        Group::Move(row) => moves::name(row),
     }
 }
 
@@ -59,6 +69,7 @@ pub fn signature(op: NeonOp) -> Sig
 {
     match op.row {
         Group::Lane(row) => lane::signature(row),
+        Group::Move(row) => moves::signature(row),
     }
 }
 
@@ -68,6 +79,7 @@ pub fn range(op: NeonOp) -> ImmRange
 {
     match op.row {
         Group::Lane(row) => lane::range(row),
+        Group::Move(row) => moves::range(row),
     }
 }
 
@@ -77,6 +89,7 @@ pub fn accesses(op: NeonOp) -> usize
 {
     match op.row {
         Group::Lane(row) => lane::accesses(row),
+        Group::Move(row) => moves::accesses(row),
     }
 }
 
@@ -86,6 +99,7 @@ pub fn access(op: NeonOp, args: &[Arg], imm: u16, k: usize) -> Option<Access>
 {
     match op.row {
         Group::Lane(row) => lane::access(row, args, imm, k),
+        Group::Move(row) => moves::access(row, args, imm, k),
     }
 }
 
@@ -97,6 +111,7 @@ pub fn eval(op: NeonOp, args: &[Arg], imm: u16) -> Arg
 {
     match op.row {
         Group::Lane(row) => lane::eval(row, args, imm),
+        Group::Move(row) => moves::eval(row, args, imm),
     }
 }
 

@@ -2,7 +2,7 @@
 
 ghost use Rattle.std.specs.Prelude.{◌≡◌};
 ghost use Rattle.lane_core.specs.Table.{Fits, InImmRange};
-ghost use Rattle.neon_table.specs.Rows.{of_lane};
+ghost use Rattle.neon_table.specs.Rows.{of_lane, of_move};
 
 use super::*;
 use lane_core::known_bytes;
@@ -40,6 +40,14 @@ fn lane_row(row: LaneOp) -> NeonOp
 {
     NeonOp {
         row: Group::Lane(row),
+    }
+}
+
+fn move_row(row: MoveOp) -> NeonOp
+    ensures { result ≡ of_move row }
+{
+    NeonOp {
+        row: Group::Move(row),
     }
 }
 
@@ -101,4 +109,48 @@ fn rows_have_the_listed_values(rt: HostRuntime) {
         value(&NeonRows, lane_row(LaneOp::VeorqU8), &args),
         Arg::R16(EXCLUSIVE)
     );
+}
+
+#[test]
+fn memory_rows_touch_sixteen_bytes(rt: HostRuntime) {
+    known_bytes(&A);
+    let args = [Arg::Nothing, Arg::R16(A)];
+    let listed = [
+        ("vld1q_u8", MoveOp::Vld1qU8, "vld1_u8", 1, false),
+        ("vst1q_u8", MoveOp::Vst1qU8, "vst1q_u16", 1, true),
+    ];
+    for (text, row, near, align, write) in listed {
+        let op = move_row(row);
+        assert_eq!(rt; find(text.as_bytes()), Some(op));
+        assert_eq!(rt; find(near.as_bytes()), None);
+        assert_eq!(rt; name(op), text);
+        let sig = signature(op);
+        assert_eq!(rt; sig.count, if write { 2 } else { 1 });
+        assert_eq!(rt;
+            sig.result,
+            if write {
+                ParamKind::Nothing
+            } else {
+                ParamKind::Lane(NeonLane::U8, true)
+            }
+        );
+        assert_eq!(rt; range(op), ImmRange::NoImmediate);
+        assert_eq!(rt; accesses(op), 1);
+        let whole = Access {
+            offset: 0,
+            size: 16,
+            align,
+            write,
+            at: 0,
+        };
+        assert_eq!(rt; access(op, &args, 0, 0), Some(whole));
+        assert_eq!(rt; access(op, &args, 0, 1), None);
+    }
+    let first = move_row(MoveOp::Vld1qU8);
+    assert_eq!(rt;
+        NeonRows.access(first, &args, 0, 0),
+        access(first, &args, 0, 0)
+    );
+    assert_eq!(rt; eval(move_row(MoveOp::Vld1qU8), &args, 0), Arg::R16(A));
+    assert_eq!(rt; eval(move_row(MoveOp::Vst1qU8), &args, 0), Arg::R16(A));
 }

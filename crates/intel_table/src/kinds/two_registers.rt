@@ -18,7 +18,7 @@ pub fn signature() -> Sig
     )
 }
 
-pub fn access(_args: &[Arg], _imm: u16, _k: usize) -> Option<Access>
+pub fn access(_op: BaseOp, _args: &[Arg], _imm: u16, _k: usize) -> Option<Access>
     ensures { result ≡ None }
 {
     None
