@@ -1,3 +1,4 @@
 pub mod Bytes
 pub mod Ends
 pub mod Definedness
+pub mod Examples

@@ -1,2 +1,12 @@
 pub mod Memory
 pub mod Defined
+pub mod Values
+pub mod Blocks
+pub mod Outcomes
+pub mod Matching
+pub mod MeaningState
+pub mod MeaningValues
+pub mod MeaningRows
+pub mod MeaningObjects
+pub mod MeaningAddressed
+pub mod Meaning

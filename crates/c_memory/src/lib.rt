@@ -3,9 +3,11 @@
 
 mod blocks;
 mod memory;
+mod value;
 
 pub use blocks::{Block, BlockList, ByteList};
 pub use memory::{Memory, Pointer};
+pub use value::Value;
 
 #[cfg(test)]
 mod tests;
