@@ -1,8 +1,8 @@
 -- Small units and what they mean, by computing the definition.
-use Rattle.std.proofs.Common.{◌≡◌, ℕ, zero, suc, List, [], ◌∷◌, ◌++◌, Option, Some, None, Bool, true, false, refl, codes, pos, negsuc, ℤ}
+use Rattle.std.proofs.Common.{◌≡◌, ℕ, zero, suc, List, [], ◌∷◌, Option, Some, None, Bool, true, false, refl, codes, pos, negsuc, ℤ}
 use Rattle.c_text.specs.declared.tokens.Place.{Place}
-use Rattle.lane_core.specs.declared.number.IntType.{IntType}
 use Rattle.lane_core.specs.declared.number.IntType.TheVariants as int
+use Rattle.lane_core.specs.declared.number.BinOp.{BinOp}
 use Rattle.lane_core.specs.declared.number.BinOp.TheVariants as op
 use Rattle.lane_core.specs.declared.vector.Pointee.{Pointee}
 use Rattle.lane_core.specs.declared.vector.NeonLane.TheVariants.{U8}
@@ -17,12 +17,14 @@ use Rattle.scalar_core.specs.TwosComplement.{wrapped, bits_of, value_of_bits}
 use Rattle.scalar_core.specs.Numbers.{num_of, converted}
 use Rattle.scalar_core.specs.Operators as operators
 use Rattle.c_tree.specs.declared.types.CType.{CType}
-use Rattle.c_tree.specs.Tree.{Tree, Kind, Trees, Node, Const, Name, Step, Binary, Assign, Cast, Index, Deref, Address, Call, NoTrees, More}
-use Rattle.c_tree.specs.Tree.{Object, Statement, Statements, Declare, Run, Block, While, DoWhile, For, Break, Return, Empty, Present, NoStatements, Then}
+use Rattle.c_tree.specs.Tree.{Tree, Kind, Node, Const, Name, Step, Binary, Assign, Cast, Index, Deref, Address, Call, NoTrees, More}
+use Rattle.c_tree.specs.Tree.{Object, Statements, Declare, Run, Block, While, DoWhile, For, Break, Return, Empty, Present, NoStatements, Then}
 use Rattle.c_tree.specs.Tree.{Definition, External, Function, Table}
 use Rattle.c_memory.specs.declared.blocks.Block.{Block as MemoryBlock}
 use Rattle.c_memory.specs.declared.memory.Pointer.{Pointer}
 use Rattle.c_memory.specs.declared.value.Value.{Value}
+use Rattle.c_memory.specs.Memory.{ended}
+use Rattle.c_memory.specs.MeaningValues.{operate}
 use Rattle.c_memory.specs.Outcomes.{Outcome, Done, Turns, Undefined}
 use Rattle.c_memory.specs.MeaningState as state
 use Rattle.c_memory.specs.MeaningState.{State, undefined}
@@ -76,9 +78,9 @@ abbrev threes : List External
 threes = function [] (
     Then (Declare (object (codes "s") (CType.Int int.Int) (Some (number (pos 0))) ∷ [])) (
     Then (For (Present (Declare (object (codes "i") (CType.Int int.Int) (Some (number (pos 0))) ∷ [])))
-      (Some (of_int (Binary op.Lt (named (codes "i")) (number (pos 2)))))
-      (Some (of_int (Step (named (codes "i")) true false)))
-      (Run (of_int (Assign (Some op.Add) (named (codes "s")) (number (pos 3)))))) (
+    (Some (of_int (Binary op.Lt (named (codes "i")) (number (pos 2)))))
+    (Some (of_int (Step (named (codes "i")) true false)))
+    (Run (of_int (Assign (Some op.Add) (named (codes "s")) (number (pos 3)))))) (
     Then (Return nowhere (Some (named (codes "s")))) NoStatements)))
 
 two_turns : run threes [] [] 2 ≡ Done (Some (an_int (pos 6))) []
@@ -172,8 +174,8 @@ break_leaves_one = refl
 shadowed : run (function [] (
     Then (Declare (object (codes "x") (CType.Int int.Int) (Some (number (pos 1))) ∷ [])) (
     Then (Block (
-      Then (Declare (object (codes "x") (CType.Int int.Int) (Some (number (pos 2))) ∷ [])) (
-      Then (Declare (object (codes "p") (CType.Pointer (Pointee.Int int.Int) false) (Some (int_pointer (Address (named (codes "x"))))) ∷ [])) NoStatements))) (
+    Then (Declare (object (codes "x") (CType.Int int.Int) (Some (number (pos 2))) ∷ [])) (
+    Then (Declare (object (codes "p") (CType.Pointer (Pointee.Int int.Int) false) (Some (int_pointer (Address (named (codes "x"))))) ∷ [])) NoStatements))) (
     Then (Return nowhere (Some (named (codes "x")))) NoStatements)))) [] [] 0
     ≡ Done (Some (an_int (pos 1))) (record { bytes = []; align = 4; writable = true; alive = false } ∷ [])
 unfolding num_of wrapped bits_of value_of_bits
@@ -196,7 +198,7 @@ abbrev byte_pointer : Kind → Tree
 byte_pointer k = Node nowhere (CType.Pointer (Pointee.Int int.UChar) true) k
 
 table_after : run (Table bytes_table true ∷ function [] (Then (Return nowhere (Some (of_int (Cast (CType.Int int.Int)
-      (Node nowhere (CType.Int int.UChar) (Index (byte_pointer (Cast (CType.Pointer (Pointee.Int int.UChar) true) (Node nowhere (CType.Array (Pointee.Int int.UChar) 3 true) (Name (codes "t"))) false)) (number (pos 1)))) false)))) NoStatements))
+    (Node nowhere (CType.Int int.UChar) (Index (byte_pointer (Cast (CType.Pointer (Pointee.Int int.UChar) true) (Node nowhere (CType.Array (Pointee.Int int.UChar) 3 true) (Name (codes "t"))) false)) (number (pos 1)))) false)))) NoStatements))
     [] (given_block ∷ []) 0
     ≡ Done (Some (an_int (pos 2))) (given_block ∷ record { bytes = Some 1 ∷ Some 2 ∷ Some 0 ∷ []; align = 1; writable = false; alive = true } ∷ [])
 unfolding num_of wrapped bits_of value_of_bits converted
@@ -235,3 +237,48 @@ row_writes = refl
 
 row_past_the_end : call_of_row small_table (codes "read") (Value.At (Pointer.At 0 1) ∷ []) (begin (two ∷ [])) ≡ state.Undefined
 row_past_the_end = refl
+
+-- int f(const _Bool *p) { return *p; } on the byte 2
+bool_of_two : run (function (object (codes "p") (CType.Pointer (Pointee.Int int.Boolean) true) None ∷ [])
+    (Then (Return nowhere (Some (of_int (Cast (CType.Int int.Int) (Node nowhere (CType.Int int.Boolean) (Deref (Node nowhere (CType.Pointer (Pointee.Int int.Boolean) true) (Name (codes "p"))))) false)))) NoStatements))
+    (Value.At (Pointer.At 0 0) ∷ []) (record given_block { bytes = Some 2 ∷ [] } ∷ []) 0 ≡ Undefined
+bool_of_two = refl
+
+-- int f(const unsigned char *p, const unsigned char *q) { return p OP q; }
+abbrev of_pointers : BinOp → List External
+of_pointers o = function (object (codes "p") (CType.Pointer (Pointee.Int int.UChar) true) None ∷ object (codes "q") (CType.Pointer (Pointee.Int int.UChar) true) None ∷ [])
+    (Then (Return nowhere (Some (of_int (Binary o (byte_pointer (Name (codes "p"))) (byte_pointer (Name (codes "q"))))))) NoStatements)
+
+abbrev on_pointers : BinOp → Pointer → Pointer → Outcome
+on_pointers o p q = run (of_pointers o) (Value.At p ∷ Value.At q ∷ []) (two ∷ two ∷ ended two ∷ []) 0
+
+abbrev on_pointers_gives : BinOp → Pointer → Pointer → Option Value → Type 0
+on_pointers_gives o p q v = on_pointers o p q ≡ Done v (two ∷ two ∷ ended two ∷ [])
+
+difference_in_a_block : on_pointers_gives op.Sub (Pointer.At 1 0) (Pointer.At 1 2) (Some (Value.Int (num_of int.Long (negsuc 1))))
+difference_in_a_block = refl
+
+difference_of_blocks : on_pointers op.Sub (Pointer.At 0 0) (Pointer.At 1 0) ≡ Undefined
+difference_of_blocks = refl
+
+order_of_blocks : on_pointers op.Lt (Pointer.At 0 0) (Pointer.At 1 0) ≡ Undefined
+order_of_blocks = refl
+
+blocks_are_unequal : on_pointers_gives op.Eq (Pointer.At 0 2) (Pointer.At 1 0) (Some (an_int (pos 0)))
+unfolding num_of operators.truth
+blocks_are_unequal = refl
+
+ended_is_not_compared : on_pointers op.Eq (Pointer.At 2 0) Pointer.Null ≡ Undefined
+ended_is_not_compared = refl
+
+-- the pointer 2 bytes behind the second of two is none
+sum_past_the_end : operate (two ∷ []) op.Add (CType.Pointer (Pointee.Int int.UChar) true) (CType.Int int.Int) (Value.At (Pointer.At 0 1)) (an_int (pos 2)) ≡ None
+unfolding num_of wrapped bits_of value_of_bits
+sum_past_the_end = refl
+
+sum_to_the_end : operate (two ∷ []) op.Add (CType.Pointer (Pointee.Int int.UChar) true) (CType.Int int.Int) (Value.At (Pointer.At 0 1)) (an_int (pos 1)) ≡ Some (Value.At (Pointer.At 0 2))
+unfolding num_of wrapped bits_of value_of_bits
+sum_to_the_end = refl
+
+sum_on_null : operate [] op.Add (CType.Pointer (Pointee.Int int.UChar) true) (CType.Int int.Int) (Value.At Pointer.Null) (an_int (pos 0)) ≡ None
+sum_on_null = refl

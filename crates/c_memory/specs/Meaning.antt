@@ -13,17 +13,16 @@ use Rattle.c_tree.specs.Tree.{Tree, Kind, Trees, Node, Const, Name, Unary, Step,
 use Rattle.c_tree.specs.Tree.{Object, Statement, Statements, Optional, Declare, Run, Block, If, While, DoWhile, For, Break, Continue, Return, Empty, Absent, Present, NoStatements, Then}
 use Rattle.c_tree.specs.Tree.{Definition, External, Function, Table}
 use Rattle.c_memory.specs.declared.blocks.Block.{Block as MemoryBlock}
-use Rattle.c_memory.specs.declared.memory.Pointer.{Pointer}
-use Rattle.c_memory.specs.declared.memory.Pointer.TheVariants.{Null, At}
+use Rattle.c_memory.specs.declared.memory.Pointer.TheVariants.{At}
 use Rattle.c_memory.specs.declared.value.Value.{Value}
 use Rattle.c_memory.specs.Memory.{ended_from}
 use Rattle.c_memory.specs.Outcomes as ended
 use Rattle.c_memory.specs.Outcomes.{Outcome}
 use Rattle.c_memory.specs.Matching.{half}
 use Rattle.c_memory.specs.MeaningState.{Location, Apart, InBlock, Binding, State, Out, Done, Turns, Undefined, Does, ◌>>=◌, ◌>>◌, pure, undefined, defined, from_memory, object_of, then_do, set_apart, spend, scoped}
-use Rattle.c_memory.specs.MeaningValues.{stride, stepped, holds, as_int, operate, operate_before, converted_value, next}
-use Rattle.c_memory.specs.MeaningObjects.{encoded, array_bytes, unset_bytes, block_of, is_const, load, Target, Named, There, value_named, read_target, set_target, target_of}
-use Rattle.c_memory.specs.MeaningAddressed.{takes_declared, takes_optional, takes_statement, takes_statements, declares_first}
+use Rattle.c_memory.specs.MeaningValues.{holds, as_int, operate, operate_before, converted_value, next}
+use Rattle.c_memory.specs.MeaningObjects.{encoded, array_bytes, unset_bytes, block_of, is_const, Target, Named, There, value_named, read_target, set_target, target_of}
+use Rattle.c_memory.specs.MeaningAddressed.{takes_declared, takes_optional, takes_statement, takes_statements}
 
 -- ---- expressions
 

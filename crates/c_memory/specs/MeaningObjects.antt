@@ -1,5 +1,5 @@
 -- Objects: the bytes that stand for a value in memory, and what is read from and written to an object of a type (C11 6.2.6, 6.7.9).
-use Rattle.std.specs.Prelude.{ℕ, ◌+◌, ◌-◌, Bool, true, false, not, ◌&&◌, ◌||◌, max, List, [], ◌∷◌, ◌++◌, map, length, replicate, Option, Some, None, option_map, if◌then◌else◌, nat_le, pos, unsigned_abs}
+use Rattle.std.specs.Prelude.{ℕ, ◌-◌, Bool, true, false, not, ◌&&◌, ◌||◌, max, List, [], ◌++◌, length, replicate, Option, Some, None, option_map, if◌then◌else◌, nat_le, pos, unsigned_abs}
 use Rattle.std.specs.Option.{option_and_then, unwrap_or}
 use Rattle.lane_core.specs.declared.number.IntType.{IntType}
 use Rattle.lane_core.specs.declared.number.Num.{Num}
@@ -13,10 +13,10 @@ use Rattle.c_tree.specs.declared.types.CType.{CType}
 use Rattle.c_tree.specs.Tree.{Tree, Trees, NoTrees, More, Object}
 use Rattle.c_memory.specs.declared.blocks.Block.{Block}
 use Rattle.c_memory.specs.declared.memory.Pointer.{Pointer}
-use Rattle.c_memory.specs.declared.memory.Pointer.TheVariants.{Null, At}
+use Rattle.c_memory.specs.declared.memory.Pointer.TheVariants.{At}
 use Rattle.c_memory.specs.declared.value.Value.{Value}
 use Rattle.c_memory.specs.Memory.{bytes_read, after_write}
-use Rattle.c_memory.specs.MeaningState.{Location, Apart, InBlock, Binding, State, Out, Done, Does, ◌>>=◌, ◌>>◌, pure, undefined, defined, from_memory, to_memory, object_of, set_apart, then_do}
+use Rattle.c_memory.specs.MeaningState.{Location, Apart, InBlock, Binding, Does, ◌>>=◌, defined, from_memory, to_memory, object_of, set_apart}
 
 -- the bytes of a number at its type: two's complement, the lowest byte first (6.2.6.2)
 abbrev pub integer_bytes : IntType → Num → List ℕ

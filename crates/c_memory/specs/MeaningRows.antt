@@ -1,8 +1,7 @@
 -- What a call of a row of a table does: it reads its accesses, applies its formula and writes its accesses.
-use Rattle.std.specs.Prelude.{ℕ, zero, suc, ◌+◌, Bool, true, false, not, List, [], ◌∷◌, ◌++◌, map, filter, length, take, drop, replicate, Option, Some, None, option_map, if◌then◌else◌, nat_eq, ℤ, pos, unsigned_abs}
+use Rattle.std.specs.Prelude.{ℕ, zero, suc, ◌+◌, true, false, not, List, [], ◌∷◌, ◌++◌, filter, length, take, drop, replicate, Option, Some, None, option_map, if◌then◌else◌, nat_eq, ℤ, pos, unsigned_abs}
 use Rattle.std.specs.Option.{option_and_then}
 use Rattle.lane_core.specs.declared.number.IntType.TheVariants as int
-use Rattle.lane_core.specs.declared.number.Num.{Num}
 use Rattle.lane_core.specs.declared.table.Access.{Access}
 use Rattle.lane_core.specs.declared.table.Arg.{Arg}
 use Rattle.lane_core.specs.declared.table.ParamKind.{ParamKind}
@@ -148,8 +147,8 @@ row_call table op values = λ s.
     let p = pointer_among values in
     let all = first_accesses (table.access op args imm) (table.accesses op) in
     then_do (defined (with_bytes_read sig s.memory p all args) s) (λ whole t.
-      let result = table.eval op whole imm in
-      row_done t sig.result result (write_each p (bytes_of result) (filter (λ a. a.write) all) t.memory))
+    let result = table.eval op whole imm in
+    row_done t sig.result result (write_each p (bytes_of result) (filter (λ a. a.write) all) t.memory))
 
 -- a call by name: of the row of that name, and undefined where there is none
 abbrev pub found_call : {Op : Type 0} → RowTable Op → Option Op → List Value → Does (Option Value)

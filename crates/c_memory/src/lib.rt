@@ -6,6 +6,7 @@ mod memory;
 mod value;
 
 pub use blocks::{Block, BlockList, ByteList};
+pub use lane_core::table::VectorTable;
 pub use memory::{Memory, Pointer};
 pub use value::Value;
 

@@ -1,6 +1,6 @@
 //! Memory and pointers into it.
 
-ghost use Rattle.std.specs.Prelude.{◌≡◌, ◌↔◌, length, IsSome};
+ghost use Rattle.std.specs.Prelude.{◌↔◌, length, IsSome};
 ghost use Rattle.c_memory.specs.Memory.{bytes_read, after_write};
 ghost use Rattle.c_memory.specs.Defined.{IsAlignment, IsDefinedRead, IsDefinedWrite, Leaves};
 

@@ -3,6 +3,7 @@
 ghost use Rattle.c_memory.specs.Defined.{IsAlignment};
 
 use super::*;
+use lane_core::number::{IntType, Num};
 use std::alloc::{AllocError, Global};
 use std::test::Fail;
 
@@ -35,12 +36,22 @@ fn sample(alloc: Global) -> Result<Memory, AllocError> {
     Ok(Memory { blocks })
 }
 
-/// What a read of four bytes gives.
-fn read(memory: &Memory, at: Pointer, align: usize) -> Option<[u8; 4]>
-    requires { IsAlignment align }
+/// An alignment of 8, 4 or 2, or else 1.
+fn known(align: usize) -> usize
+    ensures { IsAlignment result }
 {
+    match align {
+        8 => 8,
+        4 => 4,
+        2 => 2,
+        _ => 1,
+    }
+}
+
+/// What a read of four bytes gives.
+fn read(memory: &Memory, at: Pointer, align: usize) -> Option<[u8; 4]> {
     let mut into = [0; 4];
-    memory.read(at, align, &mut into)?;
+    memory.read(at, known(align), &mut into)?;
     Some(into)
 }
 
@@ -82,7 +93,7 @@ fn writes_are_defined_where_the_rule_says(rt: HostRuntime) -> Result<(), Fail> {
     ];
     for (at, align, want) in table {
         let mut memory = sample(rt.alloc())?;
-        let written = memory.write(at, align, &[7, 8, 9, 10]);
+        let written = memory.write(at, known(align), &[7, 8, 9, 10]);
         assert_eq!(rt; written.is_some(), want.is_some(), "at {at:?}");
         assert_eq!(rt; read(&memory, Pointer::At(0, 0), 1), Some([16, 17, 18, 19]));
         if want.is_some() {
@@ -116,4 +127,30 @@ fn blocks_begin_and_end(rt: HostRuntime) -> Result<(), Fail> {
         );
     }
     Ok(())
+}
+
+#[test]
+fn values_differ_in_their_types_too(rt: HostRuntime) {
+    let signed = Value::Int(Num {
+        ty: IntType::Int,
+        value: 1,
+    });
+    let unsigned = Value::Int(Num {
+        ty: IntType::UInt,
+        value: 1,
+    });
+    let table = [
+        (signed, signed, true),
+        (signed, unsigned, false),
+        (Value::R8([1; 8]), Value::R16([1; 16]), false),
+        (Value::R32([1; 32]), Value::R32([1; 32]), true),
+        (
+            Value::At(Pointer::Null),
+            Value::At(Pointer::At(0, 0)),
+            false,
+        ),
+    ];
+    for (a, b, same) in table {
+        assert_eq!(rt; a == b, same, "at {a:?}");
+    }
 }

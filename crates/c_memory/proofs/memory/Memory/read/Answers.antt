@@ -1,5 +1,3 @@
-use Rattle.std.proofs.Common.{◌∙◌, length}
-use Rattle.c_memory.specs.Memory.{bytes_read}
 use Rattle.c_memory.proofs.Definedness.{read_answers}
 use Rattle.c_memory.proofs.memory.Memory.read.Goals as goal
 
