@@ -1,5 +1,5 @@
 -- Small units and what they mean, by computing the definition.
-use Rattle.std.proofs.Common.{◌≡◌, ℕ, zero, suc, List, [], ◌∷◌, Option, Some, None, Bool, true, false, refl, codes, pos, negsuc, ℤ}
+use Rattle.std.proofs.Common.{◌≡◌, ℕ, zero, suc, List, [], ◌∷◌, ◌++◌, replicate, Option, Some, None, Bool, true, false, refl, codes, pos, negsuc, ℤ}
 use Rattle.c_text.specs.declared.tokens.Place.{Place}
 use Rattle.lane_core.specs.declared.number.IntType.TheVariants as int
 use Rattle.lane_core.specs.declared.number.BinOp.{BinOp}
@@ -17,8 +17,8 @@ use Rattle.scalar_core.specs.TwosComplement.{wrapped, bits_of, value_of_bits}
 use Rattle.scalar_core.specs.Numbers.{num_of, converted}
 use Rattle.scalar_core.specs.Operators as operators
 use Rattle.c_tree.specs.declared.types.CType.{CType}
-use Rattle.c_tree.specs.Tree.{Tree, Kind, Node, Const, Name, Step, Binary, Assign, Cast, Index, Deref, Address, Call, NoTrees, More}
-use Rattle.c_tree.specs.Tree.{Object, Statements, Declare, Run, Block, While, DoWhile, For, Break, Return, Empty, Present, NoStatements, Then}
+use Rattle.c_tree.specs.Tree.{Tree, Kind, Node, Const, Name, Step, Binary, Assign, Cast, Index, Deref, Address, Call, Half, NoTrees, More}
+use Rattle.c_tree.specs.Tree.{Object, Statement, Statements, Declare, Run, Block, While, DoWhile, For, Break, Return, Empty, Present, NoStatements, Then}
 use Rattle.c_tree.specs.Tree.{Definition, External, Function, Table}
 use Rattle.c_memory.specs.declared.blocks.Block.{Block as MemoryBlock}
 use Rattle.c_memory.specs.declared.memory.Pointer.{Pointer}
@@ -282,3 +282,30 @@ sum_to_the_end = refl
 
 sum_on_null : operate [] op.Add (CType.Pointer (Pointee.Int int.UChar) true) (CType.Int int.Int) (Value.At Pointer.Null) (an_int (pos 0)) ≡ None
 sum_on_null = refl
+
+-- uint8x16x2_t f(uint8x16_t a, uint8x16_t b) { uint8x16x2_t r; r.val[1] = b; r.val[0] = a; return r; }, and without the second assignment
+abbrev vector : Kind → Tree
+vector k = Node nowhere (CType.Neon U8 true) k
+
+abbrev pair : Kind → Tree
+pair k = Node nowhere CType.Pair k
+
+abbrev half_set : ℕ → List ℕ → Statement
+half_set k x = Run (vector (Assign None (vector (Half (pair (Name (codes "r"))) k)) (vector (Name x))))
+
+abbrev returned_pair : Statements
+returned_pair = Then (Return nowhere (Some (pair (Name (codes "r"))))) NoStatements
+
+abbrev of_halves : Statements → Outcome
+of_halves body = run (function (object (codes "a") (CType.Neon U8 true) None ∷ object (codes "b") (CType.Neon U8 true) None ∷ [])
+    (Then (Declare (object (codes "r") CType.Pair None ∷ [])) (Then (half_set 1 (codes "b")) body)))
+    (Value.R16 (replicate 16 1) ∷ Value.R16 (replicate 16 2) ∷ []) [] 0
+
+both_halves : of_halves (Then (half_set 0 (codes "a")) returned_pair) ≡ Done (Some (Value.R32 (replicate 16 1 ++ replicate 16 2))) []
+both_halves = refl
+
+one_half : of_halves returned_pair ≡ Undefined
+one_half = refl
+
+the_half_that_is_set : of_halves (Then (Return nowhere (Some (vector (Half (pair (Name (codes "r"))) 1)))) NoStatements) ≡ Done (Some (Value.R16 (replicate 16 2))) []
+the_half_that_is_set = refl

@@ -21,7 +21,7 @@ use Rattle.c_memory.specs.Outcomes.{Outcome}
 use Rattle.c_memory.specs.Matching.{half}
 use Rattle.c_memory.specs.MeaningState.{Location, Apart, InBlock, Binding, State, Out, Done, Turns, Undefined, Does, ◌>>=◌, ◌>>◌, pure, undefined, defined, from_memory, object_of, then_do, set_apart, spend, scoped}
 use Rattle.c_memory.specs.MeaningValues.{holds, as_int, operate, operate_before, converted_value, next}
-use Rattle.c_memory.specs.MeaningObjects.{encoded, array_bytes, unset_bytes, block_of, is_const, Target, Named, There, value_named, read_target, set_target, target_of}
+use Rattle.c_memory.specs.MeaningObjects.{encoded, array_bytes, unset_bytes, block_of, is_const, Target, Named, HalfNamed, There, half_named, value_named, read_target, set_target, target_of}
 use Rattle.c_memory.specs.MeaningAddressed.{takes_declared, takes_optional, takes_statement, takes_statements}
 
 -- ---- expressions
@@ -55,8 +55,8 @@ choose false p q = q
 
 -- the object of a name: an array's is the pointer to its first element (6.3.2.1p3), any other's is its value
 abbrev pub array_value : Location → Does Value
-array_value (Apart v) = undefined
 array_value (InBlock block) = pure (Value.At (At block 0))
+array_value l = undefined
 
 abbrev pub object_value : CType → Binding → Does Value
 object_value (CType.Array e n constant) b = array_value b.location
@@ -70,7 +70,7 @@ there v = undefined
 -- the address of what is at a target (6.5.3.2p3)
 abbrev pub address : Target → Does Value
 address (There p) = pure (Value.At p)
-address (Named name) = undefined
+address target = undefined
 
 -- the value of a conversion; a cast to `void` gives none (6.5.4)
 abbrev pub cast_to : CType → Option Value → Does (Option Value)
@@ -95,6 +95,11 @@ step t up before target = do
   w ← from_memory (λ memory. next memory t up v)
   set_target t target w
   pure (if before then w else v)
+
+-- `val[0]` or `val[1]` of an object that is a pair
+abbrev pub half_target : ℕ → Target → Does Target
+half_target k (Named name) = pure (HalfNamed name k)
+half_target k target = undefined
 
 -- `val[0]` or `val[1]` of a pair, and a pair of two vectors
 abbrev pub half_of : ℕ → Value → Does Value
@@ -158,6 +163,7 @@ abbrev mutual
   kind_expression t (Deref a) c = give (pointed (expression a c) >>= read_target t)
   kind_expression t (Address a) c = give (target a c >>= address)
   kind_expression t (Call f all) c = values all c >>= c f
+  kind_expression t (Half (Node p u (Name x)) k) c = give (object_of x >>= half_named k)
   kind_expression t (Half a k) c = give (its_value (expression a c) >>= half_of k)
   kind_expression t (PairOf a b) c = give (do
     v ← its_value (expression a c)
@@ -175,6 +181,7 @@ abbrev mutual
   kind_target (Name x) c = object_of x >>= (λ b. pure (target_of b))
   kind_target (Index a b) c = element_of (type_of a) (type_of b) (expression a c) (expression b c)
   kind_target (Deref a) c = pointed (expression a c)
+  kind_target (Half a k) c = target a c >>= half_target k
   kind_target k c = undefined
 
   -- the value of the last expression, or what came before where there is none (6.5.17p2)
@@ -214,12 +221,12 @@ abbrev pub first_value : Binding → Value → Does (Unit {0})
 first_value b v = at b.location
   where
     at : Location → Does (Unit {0})
-    at (Apart w) = set_apart b.name v
     at (InBlock block) = defined (encoded b.ty v) >>= fill block
+    at l = set_apart b.name v
 
 abbrev pub first_bytes : Location → List ℕ → Does (Unit {0})
-first_bytes (Apart v) bytes = undefined
 first_bytes (InBlock block) bytes = fill block bytes
+first_bytes l bytes = undefined
 
 abbrev pub initialised : Object → Option Tree → Option Trees → Calls → Does (Unit {0})
 initialised d (Some e) list c = do
