@@ -1,0 +1,5 @@
+//! The text of a unit of C.
+#![tactic(auto)]
+
+mod constants;
+mod types;
