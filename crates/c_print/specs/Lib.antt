@@ -1,2 +1,3 @@
 pub mod Constants
+pub mod Expressions
 pub mod Types

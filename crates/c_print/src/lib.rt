@@ -2,4 +2,5 @@
 #![tactic(auto)]
 
 mod constants;
+mod expressions;
 mod types;
