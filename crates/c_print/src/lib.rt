@@ -2,5 +2,6 @@
 #![tactic(auto)]
 
 mod constants;
+mod declarations;
 mod expressions;
 mod types;

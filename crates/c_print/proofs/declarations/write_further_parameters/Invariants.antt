@@ -1,0 +1,7 @@
+use Rattle.std.proofs.Common.{◌≡◌, ◌++◌, map, drop}
+use Rattle.c_tree.specs.View.{view_declared}
+use Rattle.c_print.specs.Declarations.{further_parameters}
+use Rattle.c_print.proofs.declarations.write_further_parameters.Given as goal
+
+abbrev pub invariant-loop-d : goal.invariant-loop-d
+invariant-loop-d l = l.initial.out.items ++ further_parameters (map view_declared l.all) ≡ l.out.items ++ further_parameters (map view_declared (drop l.d-index l.all))
