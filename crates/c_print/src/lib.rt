@@ -4,4 +4,8 @@
 mod constants;
 mod declarations;
 mod expressions;
+mod statements;
 mod types;
+mod units;
+
+pub use units::print;
