@@ -5,6 +5,8 @@ mod constants;
 mod declarations;
 mod expressions;
 mod statements;
+#[cfg(test)]
+mod tests;
 mod types;
 mod units;
 
