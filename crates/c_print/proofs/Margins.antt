@@ -1,5 +1,5 @@
 -- A line's margin, level by level.
-use Rattle.std.proofs.Common.{◌≡◌, ◌∙◌, ℕ, zero, suc, ◌+◌, ◌-◌, ◌<◌, ◌++◌, refl, ap, arith}
+use Rattle.std.proofs.Common.{◌≡◌, ℕ, suc, ◌+◌, ◌-◌, ◌<◌, ◌++◌, ap, arith}
 use Rattle.std.specs.Prelude.{codes}
 use Rattle.c_print.specs.Statements.{margin}
 

@@ -1,6 +1,6 @@
 -- How expressions are written: with brackets where the levels of C11 6.5 need them, and round a prefix operation that is the
 -- operand of another.
-use Rattle.std.specs.Prelude.{ℕ, ◌+◌, List, [], ◌∷◌, ◌++◌, Bool, true, false, int_lt, pos, nat_lt, not, ◌&&◌, ◌==◌, if◌then◌else◌, Option, Some, None, codes, decimal}
+use Rattle.std.specs.Prelude.{ℕ, ◌+◌, List, [], ◌++◌, Bool, true, false, int_lt, pos, nat_lt, not, ◌&&◌, ◌==◌, if◌then◌else◌, Option, Some, None, codes, decimal}
 use Rattle.lane_core.specs.declared.number.BinOp.{BinOp}
 use Rattle.lane_core.specs.declared.number.BinOp.TheVariants.{Mul, Div, Rem, Add, Sub, Shl, Shr, Lt, Gt, Le, Ge, Eq, Ne, BitAnd, BitXor, BitOr}
 use Rattle.lane_core.specs.declared.number.Num.{Num}

@@ -1,6 +1,6 @@
 -- How statements are written (C11 6.8): each on a line of its own, with four spaces for each level.
-use Rattle.std.specs.Prelude.{ℕ, zero, suc, ◌+◌, List, [], ◌∷◌, ◌++◌, Bool, true, false, if◌then◌else◌, Option, Some, None, codes}
-use Rattle.c_tree.specs.Tree.{Tree, Statement, Statements, Optional, Declare, Run, Block, If, While, DoWhile, For, Break, Continue, Return, Empty, Absent, Present, NoStatements, Then}
+use Rattle.std.specs.Prelude.{ℕ, zero, suc, ◌+◌, List, [], ◌++◌, Bool, true, false, if◌then◌else◌, Option, Some, None, codes}
+use Rattle.c_tree.specs.Tree.{Tree, Statement, Statements, Optional, Declare, Run, Block, If, While, DoWhile, For, Break, Continue, Return, Absent, Present, NoStatements, Then}
 use Rattle.c_print.specs.declared.statements.Position.{Position}
 use Rattle.c_print.specs.declared.statements.Position.TheVariants.{Line, Body, Else}
 use Rattle.c_print.specs.Expressions.{text}

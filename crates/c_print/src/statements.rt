@@ -149,15 +149,29 @@ fn write_do_end(out: &mut Vec<u8>, c: &Expr) -> Result<(), AllocError>
     out.extend_from_slice(b");\n")
 }
 
+/// What the braces of a block begin with.
+fn write_opening(out: &mut Vec<u8>) -> Result<(), AllocError>
+    ensures { OnOk result (out.new.items ≡ out.old.items ++ codes "{\n") }
+{
+    out.extend_from_slice(b"{\n")
+}
+
+/// What they end with.
+fn write_closing(out: &mut Vec<u8>, depth: usize) -> Result<(), AllocError>
+    ensures { OnOk result (out.new.items ≡ out.old.items ++ (margin depth ++ codes "}")) }
+{
+    write_margin(out, depth)?;
+    out.extend_from_slice(b"}")
+}
+
 /// A body in its braces.
 #[cycle(printer)]
 fn write_body(alloc: Global, out: &mut Vec<u8>, depth: usize, s: &Stmt) -> Result<(), AllocError>
     ensures { OnOk result (out.new.items ≡ out.old.items ++ braced depth (statement_text Body (depth + 1) (view_stmt s.now))) }
 {
-    out.extend_from_slice(b"{\n")?;
+    write_opening(out)?;
     write_stmt(alloc, out, Position::Body, deeper(depth)?, s)?;
-    write_margin(out, depth)?;
-    out.extend_from_slice(b"}")
+    write_closing(out, depth)
 }
 
 /// A body in its braces, to the end of the line.
@@ -184,10 +198,9 @@ pub fn write_block(
 ) -> Result<(), AllocError>
     ensures { OnOk result (out.new.items ≡ out.old.items ++ braced depth (statements_text (depth + 1) (view_stmts all.now))) }
 {
-    out.extend_from_slice(b"{\n")?;
+    write_opening(out)?;
     write_stmts(alloc, out, deeper(depth)?, all)?;
-    write_margin(out, depth)?;
-    out.extend_from_slice(b"}")
+    write_closing(out, depth)
 }
 
 /// A block. One that is a body stands in the braces of its heading.

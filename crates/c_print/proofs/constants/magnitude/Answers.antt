@@ -1,8 +1,8 @@
-use Rattle.std.proofs.Common.{◌≡◌, ◌∙◌, ap}
+use Rattle.std.proofs.Common.{◌∙◌, ap}
 use Rattle.std.specs.Prelude.{unsigned_abs}
 use Rattle.std.specs.Int.{w128}
 use Rattle.std.proofs.lemmas.Int.{to_z-of_z}
-use Rattle.c_print.proofs.Ranges.{abs_bound, value_fits}
+use Rattle.c_print.proofs.Ranges.{value_fits}
 use Rattle.c_print.proofs.constants.magnitude.Goals as goal
 
 pub returns : goal.returns

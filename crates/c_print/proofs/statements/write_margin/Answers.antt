@@ -1,4 +1,4 @@
-use Rattle.std.proofs.Common.{◌≡◌, ◌∙◌, ◌++◌, ◌<◌, ap, arith, append_assoc, rules}
+use Rattle.std.proofs.Common.{◌∙◌, ◌++◌, ◌<◌, ap, arith, append_assoc, rules}
 use Rattle.c_print.proofs.Margins.{margin_step}
 use Rattle.c_print.proofs.statements.write_margin.Goals as goal
 
