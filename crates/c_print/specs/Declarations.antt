@@ -1,4 +1,5 @@
--- How declarations are written (C11 6.7). What they have in common is taken from the first declarator.
+-- How declarations are written (C11 6.7). The specifiers are those of the first declarator; in a unit that was read those of the
+-- others are the same.
 use Rattle.std.specs.Prelude.{ℕ, List, [], ◌∷◌, ◌++◌, Bool, true, false, ◌||◌, Option, Some, None, codes, bytes_eq}
 use Rattle.std.specs.List.{list_all}
 use Rattle.c_tree.specs.declared.types.CType.{CType}
@@ -35,7 +36,7 @@ brackets_text _ length = []
 abbrev pub declarator_text : Object → List ℕ
 declarator_text d = star_text d.ty d.constant ++ (d.name ++ brackets_text d.ty d.length)
 
--- what `_Alignas` and the attribute begin with
+-- what `_Alignas` and the attribute begin with; between the brackets stands a constant expression (C11 6.7.5)
 unfoldable pub alignas_opening : List ℕ
 alignas_opening = codes "_Alignas("
 

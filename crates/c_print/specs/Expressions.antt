@@ -1,5 +1,6 @@
 -- How expressions are written: with brackets where the levels of C11 6.5 need them, and round a prefix operation that is the
--- operand of another.
+-- operand of another. A cast that isn't written has its operand's text. `sizeof` and strings stand in no unit that is written;
+-- they have the text of C here.
 use Rattle.std.specs.Prelude.{ℕ, ◌+◌, List, [], ◌++◌, Bool, true, false, int_lt, pos, nat_lt, not, ◌&&◌, ◌==◌, if◌then◌else◌, Option, Some, None, codes, decimal}
 use Rattle.lane_core.specs.declared.number.BinOp.{BinOp}
 use Rattle.lane_core.specs.declared.number.BinOp.TheVariants.{Mul, Div, Rem, Add, Sub, Shl, Shr, Lt, Gt, Le, Ge, Eq, Ne, BitAnd, BitXor, BitOr}

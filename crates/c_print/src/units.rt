@@ -85,7 +85,10 @@ fn header() -> &'static [u8]
     b"#include <arm_neon.h>\n#include <stddef.h>\n#include <stdint.h>\n"
 }
 
-/// The text of a unit. The only error is want of memory.
+/// The text of a unit, as `specs/Text.antt` says it, byte by byte. The only error is want of memory.
+///
+/// The body of an `if`, an `else` or a loop is written in braces, also where it isn't a block. An `if` directly behind an
+/// `else` has none.
 pub fn print(alloc: Global, unit: &Unit) -> Result<Vec<u8>, AllocError>
     ensures text { IfOk result (λ t. t.items ≡ text_of (view_unit unit.now)) }
 {
