@@ -2,3 +2,4 @@ pub mod Bytes
 pub mod Ends
 pub mod Definedness
 pub mod Examples
+pub mod Continued
