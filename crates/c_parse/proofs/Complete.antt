@@ -13,14 +13,14 @@ use Rattle.c_tree.specs.declared.types.CType.{CType}
 use Rattle.c_tree.specs.Tree.{Tree, Kind, More}
 use Rattle.c_parse.specs.declared.symbols.Infix.{Infix}
 use Rattle.c_parse.specs.declared.symbols.Infix.TheVariants as infixes
-use Rattle.c_parse.specs.declared.symbols.Sign.TheVariants.{Open, Close, OpenSquare, CloseSquare, Comma, Question, Colon}
+use Rattle.c_parse.specs.declared.symbols.Sign.TheVariants.{Open, Close, OpenSquare, CloseSquare, Comma, Question, Colon, Dot, OpenBrace, CloseBrace}
 use Rattle.c_parse.specs.declared.symbols.Symbol.{Symbol}
 use Rattle.c_parse.specs.declared.symbols.Symbol.TheVariants as symbols
 use Rattle.c_parse.specs.declared.types.Specifiers.{Specifiers}
 use Rattle.c_parse.specs.Symbols.{symbol_of}
-use Rattle.c_parse.specs.Reading.{◌>>=◌, front, is_sign, past, level_of, infix_of, tight_enough, infix_at, assignment_of, assignment_behind, step_of, prefix_of, constant_at, is_name, name_front, specify, no_specifiers, is_star, type_behind, type_front, cast_front, Assignment, Conditional, Operators, Operand, Prefixed, Base, Others, expression_with, arguments_with, conditional_from, index_with, stepped, postfix_with, read}
-use Rattle.c_parse.specs.Grammar.{Written, Tail, Constant, Named, Bare, Call, Brackets, Index, After, Before, Prefix, SizeOfType, SizeOfName, SizeOfBracketed, Cast, Between, Choice, Assign, End, Then, Is, IsName, IsType, Fits, FitAll, spell, spell_tail, tree, comma_tree, trees_of}
-use Rattle.c_parse.proofs.Fronts.{NoSpecifier, specifiers_stop, type_read, is_name_is}
+use Rattle.c_parse.specs.Reading.{front, is_sign, past, level_of, infix_of, tight_enough, infix_at, assignment_of, assignment_behind, step_of, prefix_of, constant_at, is_name, name_front, specify, no_specifiers, is_star, type_behind, type_front, cast_front, constant_front, pair_front, is_neon, half_behind, Assignment, Conditional, Operators, Operand, Prefixed, Base, Others, expression_with, arguments_with, conditional_from, stepped, postfix_with, read}
+use Rattle.c_parse.specs.Grammar.{Written, Tail, Constant, Named, Bare, Call, Brackets, Pair, Half, Index, After, Before, Prefix, SizeOfType, SizeOfName, SizeOfBracketed, Cast, Between, Choice, Assign, End, Then, Is, IsName, IsType, is_constant, Fits, FitAll, spell, spell_tail, tree, comma_tree, trees_of}
+use Rattle.c_parse.proofs.Fronts.{NoSpecifier, specifiers_stop, type_read, is_name_is, pair_type, no_pair}
 use Rattle.c_parse.proofs.Sound.{looser, level_max, row_tree}
 use Rattle.c_parse.proofs.Stable.{read_eq}
 
@@ -29,6 +29,7 @@ pub record Stops (d : Dialect) (ts : List Token) : Type 0 where
   pub call : past d Open ts ≡ None
   pub index : past d OpenSquare ts ≡ None
   pub step : step_of (front d ts) ≡ None
+  pub dot : past d Dot ts ≡ None
 
 -- nothing here goes on with an expression, a comma apart
 pub record Ends (d : Dialect) (ts : List Token) : Type 0 where
@@ -42,28 +43,31 @@ pub record Closed (d : Dialect) (ts : List Token) : Type 0 where
   pub comma : past d Comma ts ≡ None
 
 pub nothing_ends : (d : Dialect) → Closed d []
-nothing_ends d = record { ends = record { stops = record { call = refl; index = refl; step = refl }; operator = refl; question = refl; assign = refl }; comma = refl }
+nothing_ends d = record { ends = record { stops = record { call = refl; index = refl; step = refl; dot = refl }; operator = refl; question = refl; assign = refl }; comma = refl }
 
 close_ends : (d : Dialect) (t : Token) (ts : List Token) → Is d Close t → Closed d (t ∷ ts)
-close_ends d t ts e = record { ends = record { stops = record { call = rw e refl; index = rw e refl; step = rw e refl }; operator = rw e refl; question = rw e refl; assign = rw e refl }; comma = rw e refl }
+close_ends d t ts e = record { ends = record { stops = record { call = rw e refl; index = rw e refl; step = rw e refl; dot = rw e refl }; operator = rw e refl; question = rw e refl; assign = rw e refl }; comma = rw e refl }
 
 square_ends : (d : Dialect) (t : Token) (ts : List Token) → Is d CloseSquare t → Closed d (t ∷ ts)
-square_ends d t ts e = record { ends = record { stops = record { call = rw e refl; index = rw e refl; step = rw e refl }; operator = rw e refl; question = rw e refl; assign = rw e refl }; comma = rw e refl }
+square_ends d t ts e = record { ends = record { stops = record { call = rw e refl; index = rw e refl; step = rw e refl; dot = rw e refl }; operator = rw e refl; question = rw e refl; assign = rw e refl }; comma = rw e refl }
+
+brace_ends : (d : Dialect) (t : Token) (ts : List Token) → Is d CloseBrace t → Closed d (t ∷ ts)
+brace_ends d t ts e = record { ends = record { stops = record { call = rw e refl; index = rw e refl; step = rw e refl; dot = rw e refl }; operator = rw e refl; question = rw e refl; assign = rw e refl }; comma = rw e refl }
 
 colon_ends : (d : Dialect) (t : Token) (ts : List Token) → Is d Colon t → Closed d (t ∷ ts)
-colon_ends d t ts e = record { ends = record { stops = record { call = rw e refl; index = rw e refl; step = rw e refl }; operator = rw e refl; question = rw e refl; assign = rw e refl }; comma = rw e refl }
+colon_ends d t ts e = record { ends = record { stops = record { call = rw e refl; index = rw e refl; step = rw e refl; dot = rw e refl }; operator = rw e refl; question = rw e refl; assign = rw e refl }; comma = rw e refl }
 
 comma_ends : (d : Dialect) (t : Token) (ts : List Token) → Is d Comma t → Ends d (t ∷ ts)
-comma_ends d t ts e = record { stops = record { call = rw e refl; index = rw e refl; step = rw e refl }; operator = rw e refl; question = rw e refl; assign = rw e refl }
+comma_ends d t ts e = record { stops = record { call = rw e refl; index = rw e refl; step = rw e refl; dot = rw e refl }; operator = rw e refl; question = rw e refl; assign = rw e refl }
 
 question_stops : (d : Dialect) (t : Token) (ts : List Token) → Is d Question t → Stops d (t ∷ ts)
-question_stops d t ts e = record { call = rw e refl; index = rw e refl; step = rw e refl }
+question_stops d t ts e = record { call = rw e refl; index = rw e refl; step = rw e refl; dot = rw e refl }
 
 infix_stops : (d : Dialect) (t : Token) (ts : List Token) (op : Infix) → symbol_of d t ≡ symbols.Infix op → Stops d (t ∷ ts)
-infix_stops d t ts op e = record { call = rw e refl; index = rw e refl; step = rw e refl }
+infix_stops d t ts op e = record { call = rw e refl; index = rw e refl; step = rw e refl; dot = rw e refl }
 
 assign_stops : (d : Dialect) (t : Token) (ts : List Token) (op : Option BinOp) → symbol_of d t ≡ symbols.Assign op → Stops d (t ∷ ts)
-assign_stops d t ts op e = record { call = rw e refl; index = rw e refl; step = rw e refl }
+assign_stops d t ts op e = record { call = rw e refl; index = rw e refl; step = rw e refl; dot = rw e refl }
 
 pub level_min : (op : Infix) → 3 ≤ level_of op
 level_min infixes.OrElse = omega arith
@@ -121,32 +125,36 @@ record Before' (m : Symbol) : Type 0 where
   specifier : (s : Specifiers) → specify s m ≡ None
   open' : is_sign Open m ≡ false
   close : is_sign Close m ≡ false
+  brace : is_sign OpenBrace m ≡ false
 
 prefix_symbol : (m : Symbol) (op : Tree → Kind) → prefix_of m ≡ Some op → Before' m
-prefix_symbol (symbols.Infix o) op e = record { specifier = λ s. refl; open' = refl; close = refl }
-prefix_symbol symbols.Tilde op e = record { specifier = λ s. refl; open' = refl; close = refl }
-prefix_symbol symbols.Exclamation op e = record { specifier = λ s. refl; open' = refl; close = refl }
+prefix_symbol (symbols.Infix o) op e = record { specifier = λ s. refl; open' = refl; close = refl; brace = refl }
+prefix_symbol symbols.Tilde op e = record { specifier = λ s. refl; open' = refl; close = refl; brace = refl }
+prefix_symbol symbols.Exclamation op e = record { specifier = λ s. refl; open' = refl; close = refl; brace = refl }
 prefix_symbol _ op e = absurd (cc)
 
--- no expression begins with a type or a closing bracket
+-- no expression begins with a type, a closing bracket or a brace
 record Starts (d : Dialect) (ts : List Token) : Type 0 where
   specifier : NoSpecifier d ts
   close : past d Close ts ≡ None
+  brace : is_sign OpenBrace (front d ts) ≡ false
 
 starts : (d : Dialect) (c : Written) (l : ℕ) (ts : List Token) → Fits d l c → Starts d (spell c ts)
-starts d (Constant t c) l ts f = let e = constant_symbol d t c f in record { specifier = λ s. rw e refl; close = rw e refl }
-starts d (Named t) l ts f = record { specifier = λ s. rw f refl; close = rw f refl }
-starts d (Bare g o c) l ts f = record { specifier = λ s. rw f.0 refl; close = rw f.0 refl }
-starts d (Call g o a rest c) l ts f = record { specifier = λ s. rw f.0 refl; close = rw f.0 refl }
-starts d (Brackets o a rest c) l ts f = record { specifier = λ s. rw f.0 refl; close = rw f.0 refl }
+starts d (Constant t c) l ts f = let e = constant_symbol d t c f in record { specifier = λ s. rw e refl; close = rw e refl; brace = rw e refl }
+starts d (Named t) l ts f = record { specifier = λ s. rw f refl; close = rw f refl; brace = rw f refl }
+starts d (Bare g o c) l ts f = record { specifier = λ s. rw f.0 refl; close = rw f.0 refl; brace = rw f.0 refl }
+starts d (Call g o a rest c) l ts f = record { specifier = λ s. rw f.0 refl; close = rw f.0 refl; brace = rw f.0 refl }
+starts d (Brackets o a rest c) l ts f = record { specifier = λ s. rw f.0 refl; close = rw f.0 refl; brace = rw f.0 refl }
+starts d (Pair o w c b1 b2 a m b e1 e2) l ts f = record { specifier = λ s. rw f.0 refl; close = rw f.0 refl; brace = rw f.0 refl }
+starts d (Half a o v s n k c) l ts f = starts d a 17 (o ∷ v ∷ s ∷ n ∷ c ∷ ts) f.1
 starts d (Index a o b rest c) l ts f = starts d a 17 (o ∷ spell b (spell_tail rest (c ∷ ts))) f.1
 starts d (After a t up) l ts f = starts d a 16 (t ∷ ts) f.1
-starts d (Before t up a) l ts f = record { specifier = λ s. rw f.1 refl; close = rw f.1 refl }
-starts d (Prefix t op a) l ts f = let h = prefix_symbol (symbol_of d t) op f.1 in record { specifier = h.specifier; close = rw h.close refl }
-starts d (SizeOfType s o words ty c) l ts f = record { specifier = λ r. rw f.1 refl; close = rw f.1 refl }
-starts d (SizeOfName s x) l ts f = record { specifier = λ r. rw f.1 refl; close = rw f.1 refl }
-starts d (SizeOfBracketed s o x c) l ts f = record { specifier = λ r. rw f.1 refl; close = rw f.1 refl }
-starts d (Cast o words ty c a) l ts f = record { specifier = λ s. rw f.1 refl; close = rw f.1 refl }
+starts d (Before t up a) l ts f = record { specifier = λ s. rw f.1 refl; close = rw f.1 refl; brace = rw f.1 refl }
+starts d (Prefix t op a) l ts f = let h = prefix_symbol (symbol_of d t) op f.1 in record { specifier = h.specifier; close = rw h.close refl; brace = h.brace }
+starts d (SizeOfType s o words ty c) l ts f = record { specifier = λ r. rw f.1 refl; close = rw f.1 refl; brace = rw f.1 refl }
+starts d (SizeOfName s x) l ts f = record { specifier = λ r. rw f.1 refl; close = rw f.1 refl; brace = rw f.1 refl }
+starts d (SizeOfBracketed s o x c) l ts f = record { specifier = λ r. rw f.1 refl; close = rw f.1 refl; brace = rw f.1 refl }
+starts d (Cast o words ty c a) l ts f = record { specifier = λ s. rw f.1 refl; close = rw f.1 refl; brace = rw f.1 refl }
 starts d (Between a t op b) l ts f = starts d a (level_of op) (t ∷ spell b ts) f.1
 starts d (Choice a q b rest c e) l ts f = starts d a 3 (q ∷ spell b (spell_tail rest (c ∷ spell e ts))) f.1
 starts d (Assign a t op b) l ts f = starts d a 14 (t ∷ spell b ts) f.1
@@ -166,6 +174,8 @@ cast_none d (Named t) ts f = rw f refl
 cast_none d (Bare g o c) ts f = rw f.0 refl
 cast_none d (Call g o a rest c) ts f = rw f.0 refl
 cast_none d (Brackets o a rest c) ts f = rw (f.0, type_none d (spell a (spell_tail rest (c ∷ ts))) (starts d a 1 (spell_tail rest (c ∷ ts)) f.1).specifier) refl
+cast_none d (Pair o w c b1 b2 a m b e1 e2) ts f = rw (f.0, pair_type d w c (b1 ∷ b2 ∷ spell a (m ∷ spell b (e1 ∷ e2 ∷ ts))) f.1 f.2, f.2, f.3) refl
+cast_none d (Half a o v s n k c) ts f = cast_none d a (o ∷ v ∷ s ∷ n ∷ c ∷ ts) (looser d a 14 17 (omega arith) f.1)
 cast_none d (Index a o b rest c) ts f = cast_none d a (o ∷ spell b (spell_tail rest (c ∷ ts))) (looser d a 14 17 (omega arith) f.1)
 cast_none d (After a t up) ts f = cast_none d a (t ∷ ts) (looser d a 14 16 (omega arith) f.1)
 cast_none d (Before t up a) ts f = rw f.1 refl
@@ -189,6 +199,8 @@ base_front d (Named t) ts f = inr (inl f)
 base_front d (Bare g o c) ts f = inr (inl f.0)
 base_front d (Call g o a rest c) ts f = inr (inl f.0)
 base_front d (Brackets o a rest c) ts f = inr (inr f.0)
+base_front d (Pair o w c b1 b2 a m b e1 e2) ts f = inr (inr f.0)
+base_front d (Half a o v s n k c) ts f = base_front d a (o ∷ v ∷ s ∷ n ∷ c ∷ ts) (looser d a 15 17 (omega arith) f.1)
 base_front d (Index a o b rest c) ts f = base_front d a (o ∷ spell b (spell_tail rest (c ∷ ts))) (looser d a 15 17 (omega arith) f.1)
 base_front d (After a t up) ts f = base_front d a (t ∷ ts) (looser d a 15 16 (omega arith) f.1)
 base_front d (Before t up a) ts f = absurd (omega (arith, f.0))
@@ -219,8 +231,8 @@ record From (d : Dialect) (c : Written) (rest : List Token) : Type 0 where
 
 record Complete (d : Dialect) (c : Written) : Type 0 where
   base : (rest : List Token) → Fits d 17 c → past d Open rest ≡ None → read d Base (spell c rest) ≡ Some (tree c, rest)
-  indexed : (rest : List Token) → Fits d 16 c → past d Open rest ≡ None → past d OpenSquare rest ≡ None →
-      (read d Base (spell c rest) >>= λ b. index_with d (read d) b.0 b.1) ≡ Some (tree c, rest)
+  indexed : (rest : List Token) → Fits d 16 c → past d Open rest ≡ None → past d OpenSquare rest ≡ None → past d Dot rest ≡ None →
+      postfix_with d (read d) (spell c rest) ≡ Some (stepped d (tree c) rest)
   prefixed : (rest : List Token) → Fits d 14 c → Stops d rest → read d Prefixed (spell c rest) ≡ Some (tree c, rest)
   operand : (rest : List Token) → Fits d 13 c → Stops d rest → read d Operand (spell c rest) ≡ Some (tree c, rest)
   lead : (k l : ℕ) (rest : List Token) → Fits d k c → 3 ≤ k → l ≤ k → Stops d rest → infix_at d (k + 1) rest ≡ None → assignment_of (front d rest) ≡ None → Lead d l c rest
@@ -257,14 +269,14 @@ prefixed_postfix d c ts rest f e = read_eq d Prefixed (spell c ts) ∙ elim (bas
   | inr h ↦ elim h [ inl h ↦ rw (h, e) refl | inr h ↦ rw (h, e) refl ]
 ]
 
-bind_again : {A B C : Type 0} (o : Option A) (f : A → Option B) (g : B → Option C) (x : B) → (o >>= f) ≡ Some x → (o >>= λ a. f a >>= g) ≡ g x
-bind_again (Some a) f g x e = ap (λ p. p >>= g) e
-bind_again None f g x e = absurd (cc)
+half_none : (d : Dialect) (c : Option (Tree × List Token)) (ts : List Token) → past d Dot ts ≡ None → half_behind d c ts ≡ None
+half_none d (Some c) ts e = refl
+half_none d None ts e = rw e refl
 
 -- nothing is stepped
-postfix_read : (d : Dialect) (c : Written) (rest : List Token) → (read d Base (spell c rest) >>= λ b. index_with d (read d) b.0 b.1) ≡ Some (tree c, rest) → step_of (front d rest) ≡ None →
+postfix_read : (d : Dialect) (c : Written) (rest : List Token) → postfix_with d (read d) (spell c rest) ≡ Some (stepped d (tree c) rest) → step_of (front d rest) ≡ None →
     postfix_with d (read d) (spell c rest) ≡ Some (tree c, rest)
-postfix_read d c rest e stop = bind_again (read d Base (spell c rest)) (λ b. index_with d (read d) b.0 b.1) (λ i. Some (stepped d i.0 i.1)) (tree c, rest) e ∙ rw stop refl
+postfix_read d c rest e stop = e ∙ rw stop refl
 
 from_lead : (d : Dialect) (c : Written) (rest : List Token) → Lead d 3 c rest → Ends d rest → From d c rest
 from_lead d c rest h ends = record {
@@ -300,8 +312,8 @@ abbrev BasePart : Dialect → Written → Type 0
 BasePart d c = (rest : List Token) → Fits d 17 c → past d Open rest ≡ None → read d Base (spell c rest) ≡ Some (tree c, rest)
 
 abbrev IndexedPart : Dialect → Written → Type 0
-IndexedPart d c = (rest : List Token) → Fits d 16 c → past d Open rest ≡ None → past d OpenSquare rest ≡ None →
-    (read d Base (spell c rest) >>= λ b. index_with d (read d) b.0 b.1) ≡ Some (tree c, rest)
+IndexedPart d c = (rest : List Token) → Fits d 16 c → past d Open rest ≡ None → past d OpenSquare rest ≡ None → past d Dot rest ≡ None →
+    postfix_with d (read d) (spell c rest) ≡ Some (stepped d (tree c) rest)
 
 abbrev PrefixedPart : Dialect → Written → Type 0
 PrefixedPart d c = (rest : List Token) → Fits d 14 c → Stops d rest → read d Prefixed (spell c rest) ≡ Some (tree c, rest)
@@ -328,12 +340,12 @@ complete_prefixed d c fits base indexed prefixed =
 complete_indexed : (d : Dialect) (c : Written) → ((k : ℕ) → Fits d k c → Fits d 16 c) → BasePart d c → IndexedPart d c → Complete d c
 complete_indexed d c fits base indexed =
     complete_prefixed d c (λ k f. looser d c 14 16 (omega arith) (fits k f)) base indexed
-    (λ rest f stops. let g = fits 14 f in prefixed_postfix d c rest rest (looser d c 15 16 (omega arith) g) (postfix_read d c rest (indexed rest g stops.call stops.index) stops.step))
+    (λ rest f stops. let g = fits 14 f in prefixed_postfix d c rest rest (looser d c 15 16 (omega arith) g) (postfix_read d c rest (indexed rest g stops.call stops.index stops.dot) stops.step))
 
 complete_base : (d : Dialect) (c : Written) → ((k : ℕ) → Fits d k c → Fits d 17 c) → BasePart d c → Complete d c
 complete_base d c fits base =
     complete_indexed d c (λ k f. looser d c 16 17 (omega arith) (fits k f)) base
-    (λ rest f call index. rw (base rest (fits 16 f) call, index) refl)
+    (λ rest f call index dot. rw (base rest (fits 16 f) call, half_none d (constant_front (spell c rest)) rest dot, index) refl)
 
 base_constant : (d : Dialect) (t : Token) (c : Tree) → BasePart d (Constant t c)
 base_constant d t c rest f call = read_eq d Base (t ∷ rest) ∙ rw f refl
@@ -361,25 +373,81 @@ base_call : (d : Dialect) (g o : Token) (a : Written) (tl : Tail) (c : Token) �
 base_call d g o a tl c ca ct rest f call =
     read_eq d Base (spell (Call g o a tl c) rest) ∙ rw (named_no d g f.0, f.0, f.1, arguments_read d a tl c rest ca ct f.2 f.3 f.4) refl
 
+-- a pair's type stands first in no brackets around an expression
+brackets_no_pair : (d : Dialect) (o : Token) (ts : List Token) → Is d Open o → NoSpecifier d ts → pair_front d (o ∷ ts) ≡ None
+brackets_no_pair d o ts is stop = rw (is, no_pair d ts stop) refl
+
 base_brackets : (d : Dialect) (o : Token) (a : Written) (tl : Tail) (c : Token) → Complete d a → CompleteTail d tl → BasePart d (Brackets o a tl c)
 base_brackets d o a tl c ca ct rest f call =
-    read_eq d Base (spell (Brackets o a tl c) rest) ∙ rw (open_no d o f.0, f.0, row_read d a tl (c ∷ rest) ca ct f.1 f.2 (close_ends d c rest f.3), f.3) refl
+    read_eq d Base (spell (Brackets o a tl c) rest) ∙ rw (
+      open_no d o f.0,
+      brackets_no_pair d o (spell a (spell_tail tl (c ∷ rest))) f.0 (starts d a 1 (spell_tail tl (c ∷ rest)) f.1).specifier,
+      f.0,
+      row_read d a tl (c ∷ rest) ca ct f.1 f.2 (close_ends d c rest f.3),
+      f.3,
+    ) refl
+
+base_pair : (d : Dialect) (o w c b1 b2 : Token) (a : Written) (m : Token) (b : Written) (e1 e2 : Token) → Complete d a → Complete d b → BasePart d (Pair o w c b1 b2 a m b e1 e2)
+base_pair d o w c b1 b2 a m b e1 e2 ca cb rest f call =
+    let ts : List Token = spell b (e1 ∷ e2 ∷ rest) in
+    read_eq d Base (o ∷ w ∷ c ∷ b1 ∷ b2 ∷ spell a (m ∷ ts)) ∙ rw (
+      open_no d o f.0,
+      f.0,
+      f.1,
+      f.2,
+      f.3,
+      f.4,
+      ca.assignment (m ∷ ts) f.5 (comma_ends d m ts f.6),
+      f.6,
+      cb.assignment (e1 ∷ e2 ∷ rest) f.7 (brace_ends d e1 (e2 ∷ rest) f.8).ends,
+      f.8,
+      f.9,
+    ) refl
 
 indexed_index : (d : Dialect) (a : Written) (o : Token) (b : Written) (tl : Tail) (c : Token) → Complete d a → Complete d b → CompleteTail d tl → IndexedPart d (Index a o b tl c)
-indexed_index d a o b tl c ca cb ct rest f call index =
+indexed_index d a o b tl c ca cb ct rest f call index dot =
+    let ts : List Token = o ∷ spell b (spell_tail tl (c ∷ rest)) in
     rw (
-      ca.base (o ∷ spell b (spell_tail tl (c ∷ rest))) f.1 (rw f.2 refl),
+      ca.base ts f.1 (rw f.2 refl),
+      half_none d (constant_front (spell a ts)) ts (rw f.2 refl),
       f.2,
       row_read d b tl (c ∷ rest) cb ct f.3 f.4 (square_ends d c rest f.5),
       f.5,
     ) refl
 
+-- a base that is no constant begins with none
+no_constant : (d : Dialect) (c : Written) (ts : List Token) → Fits d 17 c → is_constant c ≡ false → constant_front (spell c ts) ≡ None
+no_constant d (Constant t c) ts f e = absurd (cc)
+no_constant d (Named t) ts f e = rw (named_no d t f) refl
+no_constant d (Bare g o c) ts f e = rw (named_no d g f.0) refl
+no_constant d (Call g o a rest c) ts f e = rw (named_no d g f.0) refl
+no_constant d (Brackets o a rest c) ts f e = rw (open_no d o f.0) refl
+no_constant d (Pair o w c b1 b2 a m b e1 e2) ts f e = rw (open_no d o f.0) refl
+no_constant d (Half a o v s n k c) ts f e = absurd (omega (arith, f.0))
+no_constant d (Index a o b rest c) ts f e = absurd (omega (arith, f.0))
+no_constant d (After a t up) ts f e = absurd (omega (arith, f.0))
+no_constant d (Before t up a) ts f e = absurd (omega (arith, f.0))
+no_constant d (Prefix t op a) ts f e = absurd (omega (arith, f.0))
+no_constant d (SizeOfType s o words ty c) ts f e = absurd (omega (arith, f.0))
+no_constant d (SizeOfName s x) ts f e = absurd (omega (arith, f.0))
+no_constant d (SizeOfBracketed s o x c) ts f e = absurd (omega (arith, f.0))
+no_constant d (Cast o words ty c a) ts f e = absurd (omega (arith, f.0))
+no_constant d (Between a t op b) ts f e = let max = level_max op in absurd (omega (arith, f.0))
+no_constant d (Choice a q b rest c g) ts f e = absurd (omega (arith, f.0))
+no_constant d (Assign a t op b) ts f e = absurd (omega (arith, f.0))
+
+prefixed_half : (d : Dialect) (a : Written) (o v s n : Token) (k : ℕ) (c : Token) → Complete d a → PrefixedPart d (Half a o v s n k c)
+prefixed_half d a o v s n k c ca rest f stops =
+    let ts : List Token = o ∷ v ∷ s ∷ n ∷ c ∷ rest in
+    let g : Fits d 15 (Half a o v s n k c) = (omega arith, f.1, f.2, f.3, f.4, f.5, f.6, f.7, f.8, f.9) in
+    let neon : is_neon d ≡ true = ap is_neon f.3 in
+    prefixed_postfix d (Half a o v s n k c) rest rest g
+    (rw (ca.base ts f.1 (rw f.4 refl), no_constant d a ts f.1 f.2, f.4, f.5, neon, f.6, f.7, f.8, f.9) refl)
+
 prefixed_after : (d : Dialect) (a : Written) (t : Token) (up : Bool) → Complete d a → PrefixedPart d (After a t up)
 prefixed_after d a t up ca rest f stops =
     let g : Fits d 15 (After a t up) = (omega arith, f.1, f.2) in
-    let read_a = ca.indexed (t ∷ rest) f.1 (rw f.2 refl) (rw f.2 refl) in
-    prefixed_postfix d (After a t up) rest rest g
-    (bind_again (read d Base (spell a (t ∷ rest))) (λ b. index_with d (read d) b.0 b.1) (λ i. Some (stepped d i.0 i.1)) (tree a, t ∷ rest) read_a ∙ rw f.2 refl)
+    prefixed_postfix d (After a t up) rest rest g (ca.indexed (t ∷ rest) f.1 (rw f.2 refl) (rw f.2 refl) (rw f.2 refl) ∙ rw f.2 refl)
 
 prefixed_before : (d : Dialect) (t : Token) (up : Bool) (a : Written) → Complete d a → PrefixedPart d (Before t up a)
 prefixed_before d t up a ca rest f stops = read_eq d Prefixed (t ∷ spell a rest) ∙ rw (f.1, ca.prefixed rest f.2 stops) refl
@@ -408,7 +476,8 @@ prefixed_size_type d s o words ty c rest f stops =
 
 operand_cast : (d : Dialect) (o : Token) (words : List Token) (ty : CType) (c : Token) (a : Written) → Complete d a → OperandPart d (Cast o words ty c a)
 operand_cast d o words ty c a ca rest f stops =
-    read_eq d Operand (o ∷ (words ++ c ∷ spell a rest)) ∙ rw (f.1, type_read d words ty c (spell a rest) f.2 f.3, f.3, ca.operand rest f.4 stops) refl
+    let brace = (starts d a 13 rest f.4).brace in
+    read_eq d Operand (o ∷ (words ++ c ∷ spell a rest)) ∙ rw (f.1, type_read d words ty c (spell a rest) f.2 f.3, f.3, brace, ca.operand rest f.4 stops) refl
 
 lead_between : (d : Dialect) (a : Written) (t : Token) (op : Infix) (b : Written) → Complete d a → Complete d b → (k l : ℕ) (rest : List Token) → Fits d k (Between a t op b) → 3 ≤ k → l ≤ k →
     Stops d rest → infix_at d (k + 1) rest ≡ None → assignment_of (front d rest) ≡ None → Lead d l (Between a t op b) rest
@@ -463,7 +532,7 @@ complete_between d a t op b ca cb =
     let max = level_max op in
     record {
       base = λ rest f call. absurd (omega (arith, f.0));
-      indexed = λ rest f call index. absurd (omega (arith, f.0));
+      indexed = λ rest f call index dot. absurd (omega (arith, f.0));
       prefixed = λ rest f stops. absurd (omega (arith, f.0));
       operand = λ rest f stops. absurd (omega (arith, f.0));
       lead = λ k l rest f k3 lk stops stop assign. lead_between d a t op b ca cb k l rest f k3 lk stops stop assign;
@@ -474,7 +543,7 @@ complete_between d a t op b ca cb =
 complete_choice : (d : Dialect) (a : Written) (q : Token) (b : Written) (tl : Tail) (c : Token) (e : Written) → Complete d a → Complete d b → CompleteTail d tl → Complete d e → Complete d (Choice a q b tl c e)
 complete_choice d a q b tl c e ca cb ct ce = record {
   base = λ rest f call. absurd (omega (arith, f.0));
-  indexed = λ rest f call index. absurd (omega (arith, f.0));
+  indexed = λ rest f call index dot. absurd (omega (arith, f.0));
   prefixed = λ rest f stops. absurd (omega (arith, f.0));
   operand = λ rest f stops. absurd (omega (arith, f.0));
   lead = λ k l rest f k3 lk stops stop assign. absurd (omega (arith, f.0));
@@ -485,7 +554,7 @@ complete_choice d a q b tl c e ca cb ct ce = record {
 complete_assign : (d : Dialect) (a : Written) (t : Token) (op : Option BinOp) (b : Written) → Complete d a → Complete d b → Complete d (Assign a t op b)
 complete_assign d a t op b ca cb = record {
   base = λ rest f call. absurd (omega (arith, f.0));
-  indexed = λ rest f call index. absurd (omega (arith, f.0));
+  indexed = λ rest f call index dot. absurd (omega (arith, f.0));
   prefixed = λ rest f stops. absurd (omega (arith, f.0));
   operand = λ rest f stops. absurd (omega (arith, f.0));
   lead = λ k l rest f k3 lk stops stop assign. absurd (omega (arith, f.0));
@@ -497,7 +566,7 @@ no_base : (d : Dialect) (c : Written) → (Fits d 17 c → ⊥) → BasePart d c
 no_base d c never rest f call = absurd (never f)
 
 no_index : (d : Dialect) (c : Written) → (Fits d 16 c → ⊥) → IndexedPart d c
-no_index d c never rest f call index = absurd (never f)
+no_index d c never rest f call index dot = absurd (never f)
 
 complete_unary : (d : Dialect) (c : Written) → ((k : ℕ) → Fits d k c → Fits d 14 c) → (Fits d 16 c → ⊥) → PrefixedPart d c → Complete d c
 complete_unary d c fits never prefixed = complete_prefixed d c fits (no_base d c (λ f. never (looser d c 16 17 (omega arith) f))) (no_index d c never) prefixed
@@ -517,6 +586,8 @@ mutual
   complete d (Bare g o c) = complete_base d (Bare g o c) (λ k f. f) (base_bare d g o c)
   complete d (Call g o a tl c) = complete_base d (Call g o a tl c) (λ k f. f) (base_call d g o a tl c (complete d a) (complete_tail d tl))
   complete d (Brackets o a tl c) = complete_base d (Brackets o a tl c) (λ k f. f) (base_brackets d o a tl c (complete d a) (complete_tail d tl))
+  complete d (Pair o w c b1 b2 a m b e1 e2) = complete_base d (Pair o w c b1 b2 a m b e1 e2) (λ k f. f) (base_pair d o w c b1 b2 a m b e1 e2 (complete d a) (complete d b))
+  complete d (Half a o v s n i c) = complete_unary d (Half a o v s n i c) (λ k f. (omega arith, f.1, f.2, f.3, f.4, f.5, f.6, f.7, f.8, f.9)) (λ f. omega (arith, f.0)) (prefixed_half d a o v s n i c (complete d a))
   complete d (Index a o b tl c) = complete_indexed d (Index a o b tl c) (λ k f. (omega arith, f.1, f.2, f.3, f.4, f.5)) (no_base d (Index a o b tl c) (λ f. omega (arith, f.0)))
       (indexed_index d a o b tl c (complete d a) (complete d b) (complete_tail d tl))
   complete d (After a t up) = complete_unary d (After a t up) (λ k f. (omega arith, f.1, f.2)) (λ f. omega (arith, f.0)) (prefixed_after d a t up (complete d a))
@@ -539,3 +610,11 @@ mutual
 pub row_complete : (d : Dialect) (a : Written) (tl : Tail) (rest : List Token) → Fits d 1 a → FitAll d tl → Closed d rest →
     expression_with (read d) (spell a (spell_tail tl rest)) ≡ Some (comma_tree (tree a) tl, rest)
 row_complete d a tl rest f g h = row_read d a tl rest (complete d a) (complete_tail d tl) f g h
+
+-- the same of an expression without commas
+pub assignment_complete : (d : Dialect) (a : Written) (rest : List Token) → Fits d 1 a → Ends d rest → read d Assignment (spell a rest) ≡ Some (tree a, rest)
+assignment_complete d a rest f h = (complete d a).assignment rest f h
+
+-- what is no constant to the grammar has no value
+pub no_value : (d : Dialect) (t : Token) (m : Symbol) → symbol_of d t ≡ m → (m ≡ symbols.Constant → ⊥) → constant_at t ≡ None
+no_value d t m e never = name_no_constant d t m e never

@@ -1,22 +1,26 @@
 -- What the tests on the first token say.
 use Rattle.std.proofs.Common.{◌≡◌, ℕ, ◌≤◌, ◌⊎◌, inl, inr, List, [], ◌∷◌, ◌++◌, get_or, ◌==◌, Option, Some, None, refl, sym, ◌∙◌, ap, Bool, true, false, cond}
 use Rattle.std.proofs.lemmas.Bool.{leb-true, eqb-true}
-use Rattle.std.specs.Prelude.{nat_le}
+use Rattle.std.specs.Prelude.{nat_le, ◌&&◌, codes, bytes_eq}
+use Rattle.std.specs.Cmp.Lexicographic.{bytes_decides}
 use Rattle.c_text.specs.declared.tokens.Dialect.{Dialect}
+use Rattle.c_text.specs.declared.tokens.Dialect.TheVariants.{X86, Neon}
 use Rattle.c_text.specs.declared.tokens.Token.{Token}
 use Rattle.lane_core.specs.declared.number.BinOp.{BinOp}
 use Rattle.c_tree.specs.declared.types.CType.{CType}
+use Rattle.c_tree.specs.declared.types.CType.TheVariants as ctypes
 use Rattle.c_tree.specs.Tree.{Tree}
 use Rattle.c_parse.specs.declared.symbols.Infix.{Infix}
 use Rattle.c_parse.specs.declared.symbols.Sign.{Sign}
-use Rattle.c_parse.specs.declared.symbols.Sign.TheVariants.{Open, Close, OpenSquare, CloseSquare, Comma, Question, Colon, SizeOf}
+use Rattle.c_parse.specs.declared.symbols.Sign.TheVariants.{Open, Close, OpenSquare, CloseSquare, Comma, Question, Colon, SizeOf, Dot, OpenBrace, CloseBrace, Semicolon}
+use Rattle.c_parse.specs.declared.symbols.TypeWord.TheVariants as words
 use Rattle.c_parse.specs.declared.symbols.Symbol.{Symbol}
 use Rattle.c_parse.specs.declared.symbols.Symbol.TheVariants as symbols
 use Rattle.c_parse.specs.declared.types.Specifiers.{Specifiers}
 use Rattle.c_parse.specs.Symbols.{symbol_of}
 use Rattle.c_parse.specs.Types.{base_of, pointer_to}
-use Rattle.c_parse.specs.Reading.{◌>>=◌, or_else, front, behind, code, is_sign, past, level_of, infix_of, tight_enough, infix_at, assignment_of, step_of, is_name, name_front, constant_front, constant_at, specify, specifiers_front, no_specifiers, is_qualifier, past_qualifiers, is_star, with_rest, type_behind, type_front}
-use Rattle.c_parse.specs.Grammar.{Is, IsName, IsType}
+use Rattle.c_parse.specs.Reading.{◌>>=◌, or_else, front, behind, code, is_sign, past, level_of, infix_of, tight_enough, infix_at, assignment_of, step_of, is_name, name_front, constant_front, constant_at, specify, specifiers_front, no_specifiers, is_qualifier, past_qualifiers, is_star, with_rest, type_behind, type_front, without, cast_front, is_pair, past_pair, pair_front, is_neon, past_val, half_of, which_front, half_front, half_behind}
+use Rattle.c_parse.specs.Grammar.{Is, IsName, IsType, IsPair}
 
 pub bind_some : {A B : Type 0} (o : Option A) (f : A → Option B) (y : B) → (o >>= f) ≡ Some y → (x : A) × (o ≡ Some x) × (f x ≡ Some y)
 bind_some (Some x) f y e = (x, refl, e)
@@ -27,7 +31,8 @@ or_else_cases (Some x) f y z e = inl (x, refl, e)
 or_else_cases None f y z e = inr (refl, e)
 
 signs_in_order : List Sign
-signs_in_order = Open ∷ Close ∷ OpenSquare ∷ CloseSquare ∷ Comma ∷ Question ∷ Colon ∷ SizeOf ∷ []
+signs_in_order =
+    Open ∷ Close ∷ OpenSquare ∷ CloseSquare ∷ Comma ∷ Question ∷ Colon ∷ SizeOf ∷ Dot ∷ OpenBrace ∷ CloseBrace ∷ Semicolon ∷ []
 
 sign_again : (s : Sign) → get_or signs_in_order (code s) Open ≡ s
 unfolding signs_in_order
@@ -39,6 +44,10 @@ sign_again Comma = refl
 sign_again Question = refl
 sign_again Colon = refl
 sign_again SizeOf = refl
+sign_again Dot = refl
+sign_again OpenBrace = refl
+sign_again CloseBrace = refl
+sign_again Semicolon = refl
 
 sign_is : (s r : Sign) → (code s == code r) ≡ true → s ≡ r
 sign_is s r t = sym (sign_again s) ∙ ap (λ i. get_or signs_in_order i Open) (eqb-true (code s) (code r) t) ∙ sign_again r
@@ -81,7 +90,7 @@ pub record Constants (ts : List Token) (x : Tree × List Token) : Type 0 where
   pub is : constant_at token ≡ Some x.0
   pub split : ts ≡ token ∷ x.1
 
-pub constant_is : (d : Dialect) (ts : List Token) (x : Tree × List Token) → constant_front d ts ≡ Some x → Constants ts x
+pub constant_is : (d : Dialect) (ts : List Token) (x : Tree × List Token) → constant_front ts ≡ Some x → Constants ts x
 constant_is d [] x e = absurd (cc)
 constant_is d (t ∷ ts) x e =
     let (c, ce, e1) = bind_some (constant_at t) _ _ e in
@@ -270,3 +279,189 @@ type_read d words ty c rest is close =
           let read = h.again (c ∷ rest) (λ s. rw close refl) in
           ap (λ w. type_behind d (specifiers_front d no_specifiers w)) whole ∙ rw (read, close, f.0) refl
     ]
+
+without_is : (d : Dialect) (s : Sign) (ts us : List Token) → without d s ts ≡ Some us → ts ≡ us
+without_is d s ts us e = go (is_sign s (front d ts)) e
+  where
+    go : (b : Bool) → cond b None (Some ts) ≡ Some us → ts ≡ us
+    go true e = absurd (cc)
+    go false e = ap (λ (o : Option (List Token)). or_else o (λ x. x) ts) e
+
+-- a type in brackets
+pub record Casts (d : Dialect) (ts : List Token) (x : CType × List Token) : Type 0 where
+  pub open' : Token
+  pub words : List Token
+  pub close : Token
+  pub is_open : Is d Open open'
+  pub is_type : IsType d words x.0
+  pub is_close : Is d Close close
+  pub split : ts ≡ open' ∷ (words ++ close ∷ x.1)
+
+pub cast_is : (d : Dialect) (ts : List Token) (x : CType × List Token) → cast_front d ts ≡ Some x → Casts d ts x
+cast_is d ts x e =
+    let (us, p, e1) = bind_some (past d Open ts) _ _ e in
+    let (ty, q, e2) = bind_some (type_front d us) _ _ e1 in
+    let (vs, r, e3) = bind_some (past d Close ty.1) _ _ e2 in
+    let (ws, z, e4) = bind_some (without d OpenBrace vs) _ _ e3 in
+    let open' = past_is d Open ts us p in
+    let name = type_is d us ty q in
+    let close = past_is d Close ty.1 vs r in
+    let which : ty.0 ≡ x.0 = ap (λ (o : Option (CType × List Token)). or_else o (λ y. y.0) ty.0) e4 in
+    let after : ws ≡ x.1 = ap (λ (o : Option (CType × List Token)). or_else o (λ y. y.1) ws) e4 in
+    record {
+      open' = open'.token;
+      words = name.words;
+      close = close.token;
+      is_open = open'.is;
+      is_type = name.is ∙ ap (λ t. Some (t, [])) which;
+      is_close = close.is;
+      split = open'.split ∙ ap (λ y. open'.token ∷ y) (name.split ∙ ap (λ y. name.words ++ y) (close.split ∙ ap (λ y. close.token ∷ y) (without_is d OpenBrace vs ws z ∙ after)));
+    }
+
+is_pair_is : (m : Symbol) → is_pair m ≡ true → m ≡ symbols.Type (words.Whole ctypes.Pair)
+is_pair_is (symbols.Type (words.Whole ctypes.Pair)) e = refl
+is_pair_is _ e = absurd (cc)
+
+-- the type of pairs in brackets, and a brace
+pub record Pairs (d : Dialect) (ts us : List Token) : Type 0 where
+  pub open' : Token
+  pub word : Token
+  pub close : Token
+  pub brace : Token
+  pub is_open : Is d Open open'
+  pub is_word : IsPair d word
+  pub is_close : Is d Close close
+  pub is_brace : Is d OpenBrace brace
+  pub split : ts ≡ open' ∷ word ∷ close ∷ brace ∷ us
+
+past_pair_is : (d : Dialect) (ts us : List Token) → past_pair d ts ≡ Some us → (t : Token) × IsPair d t × (ts ≡ t ∷ us)
+past_pair_is d [] us e = absurd (cc)
+past_pair_is d (t ∷ ts) us e = go (is_pair (symbol_of d t)) refl e
+  where
+    go : (b : Bool) → is_pair (symbol_of d t) ≡ b → cond b (Some ts) None ≡ Some us → (x : Token) × IsPair d x × (t ∷ ts ≡ x ∷ us)
+    go true h e = (t, is_pair_is (symbol_of d t) h, ap (λ (o : Option (List Token)). or_else o (λ x. t ∷ x) []) e)
+    go false h e = absurd (cc)
+
+pub pair_is : (d : Dialect) (ts us : List Token) → pair_front d ts ≡ Some us → Pairs d ts us
+pair_is d ts us e =
+    let (vs, p, e1) = bind_some (past d Open ts) _ _ e in
+    let (ws, q, e2) = bind_some (past_pair d vs) _ _ e1 in
+    let (xs, r, e3) = bind_some (past d Close ws) _ _ e2 in
+    let open' = past_is d Open ts vs p in
+    let (word, is_word, split) = past_pair_is d vs ws q in
+    let close = past_is d Close ws xs r in
+    let brace = past_is d OpenBrace xs us e3 in
+    record {
+      open' = open'.token;
+      word = word;
+      close = close.token;
+      brace = brace.token;
+      is_open = open'.is;
+      is_word = is_word;
+      is_close = close.is;
+      is_brace = brace.is;
+      split = open'.split ∙ ap (λ y. open'.token ∷ y) (split ∙ ap (λ y. word ∷ y) (close.split ∙ ap (λ y. close.token ∷ y) brace.split));
+    }
+
+-- the type of pairs in brackets is a type's name
+pub pair_type : (d : Dialect) (w c : Token) (ts : List Token) → IsPair d w → Is d Close c → type_front d (w ∷ c ∷ ts) ≡ Some (ctypes.Pair, c ∷ ts)
+unfolding type_front
+pair_type d w c ts f g = rw (f, g, g) refl
+
+-- what begins with no specifier begins with no pair's type
+pub no_pair : (d : Dialect) (ts : List Token) → NoSpecifier d ts → past_pair d ts ≡ None
+no_pair d ts stop = go (is_pair (front d ts)) refl
+  where
+    go : (b : Bool) → is_pair (front d ts) ≡ b → past_pair d ts ≡ None
+    go true h =
+        let is : front d ts ≡ symbols.Type (words.Whole ctypes.Pair) = is_pair_is (front d ts) h in
+        let none = rw is at (stop no_specifiers) in
+        absurd (cc)
+    go false h = rw h refl
+
+neon_is : (d : Dialect) → is_neon d ≡ true → d ≡ Neon
+neon_is X86 e = absurd (cc)
+neon_is Neon e = refl
+
+-- the name `val`, in the Neon dialect
+record Vals (d : Dialect) (ts us : List Token) : Type 0 where
+  token : Token
+  neon : d ≡ Neon
+  is : IsName d token
+  text : token.text ≡ codes "val"
+  split : ts ≡ token ∷ us
+
+val_is : (d : Dialect) (ts us : List Token) → past_val d ts ≡ Some us → Vals d ts us
+val_is d ts us e =
+    let (x, xe, e1) = bind_some (name_front d ts) _ _ e in
+    let name = name_is d ts x xe in
+    go x name.0 name.1 (is_neon d) (bytes_eq x.0.text (codes "val")) refl refl e1
+  where
+    go : (x : Token × List Token) → IsName d x.0 → ts ≡ x.0 ∷ x.1 → (n b : Bool) → is_neon d ≡ n → bytes_eq x.0.text (codes "val") ≡ b → cond (n && b) (Some x.1) None ≡ Some us → Vals d ts us
+    go x is split true true n b e = record {
+      token = x.0;
+      neon = neon_is d n;
+      is = is;
+      text = (bytes_decides x.0.text (codes "val")).0 b;
+      split = split ∙ ap (λ (o : Option (List Token)). or_else o (λ y. x.0 ∷ y) []) e;
+    }
+    go x is split true false n b e = absurd (cc)
+    go x is split false b n c e = absurd (cc)
+
+which_is : (ts : List Token) (x : ℕ × List Token) → which_front ts ≡ Some x → (t : Token) × (half_of t ≡ Some x.0) × (ts ≡ t ∷ x.1)
+which_is [] x e = absurd (cc)
+which_is (t ∷ ts) x e =
+    let (k, ke, e1) = bind_some (half_of t) _ _ e in
+    let first : k ≡ x.0 = ap (λ (o : Option (ℕ × List Token)). or_else o (λ p. p.0) k) e1 in
+    let rest : ts ≡ x.1 = ap (λ (o : Option (ℕ × List Token)). or_else o (λ p. p.1) ts) e1 in
+    (t, ke ∙ ap Some first, ap (λ r. t ∷ r) rest)
+
+-- which half is named
+pub record Halves (d : Dialect) (ts : List Token) (x : ℕ × List Token) : Type 0 where
+  pub dot : Token
+  pub val : Token
+  pub square : Token
+  pub number : Token
+  pub close : Token
+  pub neon : d ≡ Neon
+  pub is_dot : Is d Dot dot
+  pub is_val : IsName d val
+  pub text : val.text ≡ codes "val"
+  pub is_square : Is d OpenSquare square
+  pub which : half_of number ≡ Some x.0
+  pub is_close : Is d CloseSquare close
+  pub split : ts ≡ dot ∷ val ∷ square ∷ number ∷ close ∷ x.1
+
+pub half_is : (d : Dialect) (ts : List Token) (x : ℕ × List Token) → half_front d ts ≡ Some x → Halves d ts x
+half_is d ts x e =
+    let (us, p, e1) = bind_some (past d Dot ts) _ _ e in
+    let (vs, q, e2) = bind_some (past_val d us) _ _ e1 in
+    let (ws, r, e3) = bind_some (past d OpenSquare vs) _ _ e2 in
+    let (k, ke, e4) = bind_some (which_front ws) _ _ e3 in
+    let (xs, z, e5) = bind_some (past d CloseSquare k.1) _ _ e4 in
+    let dot = past_is d Dot ts us p in
+    let val = val_is d us vs q in
+    let square = past_is d OpenSquare vs ws r in
+    let (number, which, split) = which_is ws k ke in
+    let close = past_is d CloseSquare k.1 xs z in
+    let same : k.0 ≡ x.0 = ap (λ (o : Option (ℕ × List Token)). or_else o (λ y. y.0) k.0) e5 in
+    let after : xs ≡ x.1 = ap (λ (o : Option (ℕ × List Token)). or_else o (λ y. y.1) xs) e5 in
+    record {
+      dot = dot.token;
+      val = val.token;
+      square = square.token;
+      number = number;
+      close = close.token;
+      neon = val.neon;
+      is_dot = dot.is;
+      is_val = val.is;
+      text = val.text;
+      is_square = square.is;
+      which = which ∙ ap Some same;
+      is_close = close.is;
+      split = dot.split ∙ ap (λ y. dot.token ∷ y) (val.split ∙ ap (λ y. val.token ∷ y) (square.split ∙ ap (λ y. square.token ∷ y) (split ∙ ap (λ y. number ∷ y) (close.split ∙ ap (λ y. close.token ∷ y) after))));
+    }
+
+pub half_behind_is : (d : Dialect) (c : Option (Tree × List Token)) (ts : List Token) (x : ℕ × List Token) → half_behind d c ts ≡ Some x → (c ≡ None) × (half_front d ts ≡ Some x)
+half_behind_is d (Some c) ts x e = absurd (cc)
+half_behind_is d None ts x e = (refl, e)

@@ -11,12 +11,12 @@ use Rattle.c_tree.specs.Tree as trees
 use Rattle.c_tree.specs.Tree.{Tree, Kind, Trees, NoTrees, More}
 use Rattle.c_parse.specs.declared.symbols.Infix.{Infix}
 use Rattle.c_parse.specs.declared.symbols.Infix.TheVariants as infixes
-use Rattle.c_parse.specs.declared.symbols.Sign.TheVariants.{Open, Close, OpenSquare, CloseSquare, Comma, Question, Colon, SizeOf}
+use Rattle.c_parse.specs.declared.symbols.Sign.TheVariants.{Open, Close, OpenSquare, CloseSquare, Comma, Question, Colon, SizeOf, OpenBrace, CloseBrace}
 use Rattle.c_parse.specs.declared.symbols.Symbol.TheVariants as symbols
 use Rattle.c_parse.specs.Symbols.{symbol_of}
-use Rattle.c_parse.specs.Reading.{or_else, front, place_at, behind, past, node, level_of, infix_of, tight_enough, infix_at, infix_kind, assignment_of, assignment_behind, step_of, prefix_of, name_front, constant_front, type_front, cast_front, sequence, Goal, Answer, Assignment, Conditional, Operators, Operand, Prefixed, Base, Others, Readers, expression_with, arguments_with, others_with, choice_with, conditional_from, conditional_with, assignment_with, operators_with, operand_with, size_with, index_with, stepped, postfix_with, prefixed_with, named_with, base_with, step, read_at}
-use Rattle.c_parse.specs.Grammar.{Written, Tail, Constant, Named, Bare, Call, Brackets, Index, After, Before, Prefix, SizeOfType, SizeOfName, SizeOfBracketed, Cast, Between, Choice, Assign, End, Then, Is, IsName, Fits, FitAll, spell, spell_tail, tree, comma_tree, trees_of}
-use Rattle.c_parse.proofs.Fronts.{bind_some, or_else_cases, past_is, name_is, constant_is, front_is, assignment_is, step_is, infix_is, type_is}
+use Rattle.c_parse.specs.Reading.{or_else, front, place_at, behind, past, node, level_of, infix_of, tight_enough, infix_at, infix_kind, assignment_of, assignment_behind, step_of, prefix_of, name_front, constant_front, type_front, cast_front, sequence, Goal, Answer, Assignment, Conditional, Operators, Operand, Prefixed, Base, Others, Readers, expression_with, arguments_with, others_with, choice_with, conditional_from, conditional_with, assignment_with, operators_with, operand_with, size_with, index_with, stepped, half_front, half_behind, postfix_with, prefixed_with, named_with, pair_front, pair_with, brackets_with, base_with, step, read_at}
+use Rattle.c_parse.specs.Grammar.{Written, Tail, Constant, Named, Bare, Call, Brackets, Pair, Half, Index, After, Before, Prefix, SizeOfType, SizeOfName, SizeOfBracketed, Cast, Between, Choice, Assign, End, Then, Is, IsName, IsPair, is_constant, Fits, FitAll, spell, spell_tail, tree, comma_tree, trees_of}
+use Rattle.c_parse.proofs.Fronts.{bind_some, or_else_cases, past_is, name_is, constant_is, front_is, assignment_is, step_is, infix_is, type_is, cast_is, pair_is, half_is, half_behind_is}
 
 -- ts is written as an expression of this level that means t, and then us
 pub record Wrote (d : Dialect) (l : ℕ) (ts : List Token) (t : Tree) (us : List Token) : Type 0 where
@@ -45,6 +45,8 @@ looser d (Named t) j k h f = f
 looser d (Bare g o c) j k h f = f
 looser d (Call g o a rest c) j k h f = f
 looser d (Brackets o a rest c) j k h f = f
+looser d (Pair o w c b1 b2 a m b e1 e2) j k h f = f
+looser d (Half a o v s n i c) j k h f = (omega (arith, f.0), f.1, f.2, f.3, f.4, f.5, f.6, f.7, f.8, f.9)
 looser d (Index a o b rest c) j k h f = (omega (arith, f.0), f.1, f.2, f.3, f.4, f.5)
 looser d (After a t up) j k h f = (omega (arith, f.0), f.1, f.2)
 looser d (Before t up a) j k h f = (omega (arith, f.0), f.1, f.2)
@@ -132,6 +134,11 @@ loose_is d k t ts op is e = go (nat_le k (level_of op)) refl (sym (ap (λ m. tig
     go : (b : Bool) → nat_le k (level_of op) ≡ b → cond b (Some op) None ≡ None → level_of op < k
     go true t f = absurd (cc)
     go false t f = leb-false k (level_of op) t
+
+-- what begins with no constant is none
+not_constant : (d : Dialect) (c : Written) (ts us : List Token) → Fits d 17 c → ts ≡ spell c us → constant_front ts ≡ None → is_constant c ≡ false
+not_constant d (Constant t k) ts us f e none = let some : constant_front ts ≡ Some (k, us) = ap constant_front e ∙ rw f refl in absurd (cc)
+not_constant d _ ts us f e none = refl
 
 module _ (d : Dialect) (R : Readers) (s : Sound d R) where
   pub sound_row : (ts us : List Token) (t : Tree) → expression_with R ts ≡ Some (t, us) → WroteRow d ts t us
@@ -263,24 +270,17 @@ module _ (d : Dialect) (R : Readers) (s : Sound d R) where
   sound_operand ts us t e =
       elim (or_else_cases (cast_front d ts) _ _ _ e) [
         | inl (c, o, e1) ↦
-            let (vs, p, e2) = bind_some (past d Open ts) _ _ o in
-            let (ty, q, e3) = bind_some (type_front d vs) _ _ e2 in
-            let (ws, z, e4) = bind_some (past d Close ty.1) _ _ e3 in
-            let (a, ae, e5) = bind_some (R Operand c.1) _ _ e1 in
-            let open' = past_is d Open ts vs p in
-            let name = type_is d vs ty q in
-            let close = past_is d Close ty.1 ws z in
+            let (a, ae, e2) = bind_some (R Operand c.1) _ _ e1 in
+            let h = cast_is d ts c o in
             let w : Wrote d 13 c.1 a.0 a.1 = (s Operand c.1 a.1 a.0 ae).0 in
-            let same = same_0 _ _ _ _ e5 in
-            let rest = same_1 _ _ _ _ e5 in
-            let which : ty.0 ≡ c.0 = same_0 _ _ _ _ e4 in
-            let after : ws ≡ c.1 = same_1 _ _ _ _ e4 in
-            let place : open'.token.place ≡ place_at ts = sym (ap place_at open'.split) in (
+            let same = same_0 _ _ _ _ e2 in
+            let rest = same_1 _ _ _ _ e2 in
+            let place : h.open'.place ≡ place_at ts = sym (ap place_at h.split) in (
               record {
-                written = Cast open'.token name.words ty.0 close.token w.written;
-                fits = (omega arith, open'.is, name.is, close.is, w.fits);
-                spelled = open'.split ∙ ap (λ y. open'.token ∷ y) (name.split ∙ ap (λ y. name.words ++ y) (close.split ∙ ap (λ y. close.token ∷ y) (after ∙ w.spelled ∙ ap (spell w.written) rest)));
-                means = cc (w.means, which, place, same);
+                written = Cast h.open' h.words c.0 h.close w.written;
+                fits = (omega arith, h.is_open, h.is_type, h.is_close, w.fits);
+                spelled = h.split ∙ ap (λ y. h.open' ∷ (h.words ++ h.close ∷ y)) (w.spelled ∙ ap (spell w.written) rest);
+                means = cc (w.means, place, same);
               },
               λ n. some_is_none (cast_front d ts) c o n,
             )
@@ -365,15 +365,36 @@ module _ (d : Dialect) (R : Readers) (s : Sound d R) where
             record { written = c; fits = looser d c 15 16 (omega arith) f; spelled = ap (spell c) rest; means = m ∙ same }
       ]
 
+  -- a half of a pair, behind a base
+  sound_half : (c : Written) (a : Tree) (ts us : List Token) (x : ℕ × List Token) (t : Tree) → Fits d 17 c → is_constant c ≡ false → tree c ≡ a → half_front d ts ≡ Some x →
+      ◌≡◌ {A = Option (Tree × List Token)} (Some (node (place_at ts) (trees.Half a x.0), x.1)) (Some (t, us)) → Wrote d 15 (spell c ts) t us
+  sound_half c a ts us x t f none m o e =
+      let h = half_is d ts x o in
+      let place : h.dot.place ≡ place_at ts = sym (ap place_at h.split) in
+      let same = same_0 _ _ _ _ e in
+      record {
+        written = Half c h.dot h.val h.square h.number x.0 h.close;
+        fits = (omega arith, f, none, h.neon, h.is_dot, h.is_val, h.text, h.is_square, h.which, h.is_close);
+        spelled = ap (spell c) (h.split ∙ ap (λ y. h.dot ∷ h.val ∷ h.square ∷ h.number ∷ h.close ∷ y) (same_1 _ _ _ _ e));
+        means = cc (m, place, same);
+      }
+
   sound_postfix : (ts us : List Token) (t : Tree) → postfix_with d R ts ≡ Some (t, us) → Wrote d 15 ts t us
   sound_postfix ts us t e =
       let (b, be, e1) = bind_some (R Base ts) _ _ e in
-      let (i, ie, e2) = bind_some (index_with d R b.0 b.1) _ _ e1 in
       let w : Wrote d 17 ts b.0 b.1 = s Base ts b.1 b.0 be in
-      let x = sound_index w.written b.0 b.1 i.1 i.0 w.fits w.means ie in
-      let last : stepped d i.0 i.1 ≡ (t, us) = ap (λ o. or_else o (λ p. p) (t, us)) e2 in
-      let y = sound_step_behind x.written i.0 i.1 us t x.fits x.means last in
-      record { written = y.written; fits = y.fits; spelled = w.spelled ∙ x.spelled ∙ y.spelled; means = y.means }
+      elim (or_else_cases (half_behind d (constant_front ts) b.1) _ _ _ e1) [
+        | inl (h, o, e2) ↦
+            let (none, named) = half_behind_is d (constant_front ts) b.1 h o in
+            let x = sound_half w.written b.0 b.1 us h t w.fits (not_constant d w.written ts b.1 w.fits w.spelled none) w.means named e2 in
+            record { written = x.written; fits = x.fits; spelled = w.spelled ∙ x.spelled; means = x.means }
+        | inr (o, e2) ↦
+            let (i, ie, e3) = bind_some (index_with d R b.0 b.1) _ _ e2 in
+            let x = sound_index w.written b.0 b.1 i.1 i.0 w.fits w.means ie in
+            let last : stepped d i.0 i.1 ≡ (t, us) = ap (λ o. or_else o (λ p. p) (t, us)) e3 in
+            let y = sound_step_behind x.written i.0 i.1 us t x.fits x.means last in
+            record { written = y.written; fits = y.fits; spelled = w.spelled ∙ x.spelled ∙ y.spelled; means = y.means }
+      ]
 
   sound_prefixed : (ts us : List Token) (t : Tree) → prefixed_with d R ts ≡ Some (t, us) → Wrote d 14 ts t us
   sound_prefixed ts us t e =
@@ -450,9 +471,48 @@ module _ (d : Dialect) (R : Readers) (s : Sound d R) where
         | inr (o, e1) ↦ record { written = Named x; fits = is; spelled = ap (λ y. x ∷ y) (same_1 _ _ _ _ e1); means = same_0 _ _ _ _ e1 }
       ]
 
+  -- the halves of a pair
+  sound_pair : (o w c b : Token) (ts us : List Token) (t : Tree) → Is d Open o → IsPair d w → Is d Close c → Is d OpenBrace b → pair_with d R o.place ts ≡ Some (t, us) → Wrote d 17 (o ∷ w ∷ c ∷ b ∷ ts) t us
+  sound_pair o w c b ts us t f g h k e =
+      let (vs, p, e1) = bind_some (past d OpenBrace ts) _ _ e in
+      let (x, xe, e2) = bind_some (R Assignment vs) _ _ e1 in
+      let (ws, q, e3) = bind_some (past d Comma x.1) _ _ e2 in
+      let (y, ye, e4) = bind_some (R Assignment ws) _ _ e3 in
+      let (xs, r, e5) = bind_some (past d CloseBrace y.1) _ _ e4 in
+      let (zs, z, e6) = bind_some (past d CloseBrace xs) _ _ e5 in
+      let second = past_is d OpenBrace ts vs p in
+      let comma = past_is d Comma x.1 ws q in
+      let inner = past_is d CloseBrace y.1 xs r in
+      let outer = past_is d CloseBrace xs zs z in
+      let low : Wrote d 1 vs x.0 x.1 = s Assignment vs x.1 x.0 xe in
+      let high : Wrote d 1 ws y.0 y.1 = s Assignment ws y.1 y.0 ye in
+      let ends : y.1 ≡ inner.token ∷ outer.token ∷ us = inner.split ∙ ap (λ l. inner.token ∷ l) (outer.split ∙ ap (λ l. outer.token ∷ l) (same_1 _ _ _ _ e6)) in
+      let from : x.1 ≡ comma.token ∷ spell high.written (inner.token ∷ outer.token ∷ us) = comma.split ∙ ap (λ l. comma.token ∷ l) (high.spelled ∙ ap (spell high.written) ends) in
+      record {
+        written = Pair o w c b second.token low.written comma.token high.written inner.token outer.token;
+        fits = (f, g, h, k, second.is, low.fits, comma.is, high.fits, inner.is, outer.is);
+        spelled = ap (λ l. o ∷ w ∷ c ∷ b ∷ l) (second.split ∙ ap (λ l. second.token ∷ l) (low.spelled ∙ ap (spell low.written) from));
+        means = ap (λ l. node o.place (trees.PairOf l (tree high.written))) low.means ∙ ap (λ l. node o.place (trees.PairOf x.0 l)) high.means ∙ same_0 _ _ _ _ e6;
+      }
+
+  sound_brackets : (ts us : List Token) (t : Tree) → brackets_with d R ts ≡ Some (t, us) → Wrote d 17 ts t us
+  sound_brackets ts us t e =
+      let (vs, p, e3) = bind_some (past d Open ts) _ _ e in
+      let (a, ae, e4) = bind_some (expression_with R vs) _ _ e3 in
+      let (ws, q, e5) = bind_some (past d Close a.1) _ _ e4 in
+      let open' = past_is d Open ts vs p in
+      let close = past_is d Close a.1 ws q in
+      let row = sound_row vs a.1 a.0 ae in
+      record {
+        written = Brackets open'.token row.first row.others close.token;
+        fits = (open'.is, row.fits.0, row.fits.1, close.is);
+        spelled = open'.split ∙ ap (λ y. open'.token ∷ y) (row.spelled ∙ ap (λ y. spell row.first (spell_tail row.others y)) (close.split ∙ ap (λ y. close.token ∷ y) (same_1 _ _ _ _ e5)));
+        means = row.means ∙ same_0 _ _ _ _ e5;
+      }
+
   sound_base : (ts us : List Token) (t : Tree) → base_with d R ts ≡ Some (t, us) → Wrote d 17 ts t us
   sound_base ts us t e =
-      elim (or_else_cases (constant_front d ts) _ _ _ e) [
+      elim (or_else_cases (constant_front ts) _ _ _ e) [
         | inl (c, o, e1) ↦
             let h = constant_is d ts c o in
             record { written = Constant h.token c.0; fits = h.is; spelled = h.split ∙ ap (λ y. h.token ∷ y) (same_1 _ _ _ _ e1); means = same_0 _ _ _ _ e1 }
@@ -461,19 +521,14 @@ module _ (d : Dialect) (R : Readers) (s : Sound d R) where
               let name = name_is d ts x o' in
               let w = sound_named x.0 x.1 us t name.0 e2 in
               record { written = w.written; fits = w.fits; spelled = name.1 ∙ w.spelled; means = w.means }
-          | inr (o', e2) ↦
-              let (vs, p, e3) = bind_some (past d Open ts) _ _ e2 in
-              let (a, ae, e4) = bind_some (expression_with R vs) _ _ e3 in
-              let (ws, q, e5) = bind_some (past d Close a.1) _ _ e4 in
-              let open' = past_is d Open ts vs p in
-              let close = past_is d Close a.1 ws q in
-              let row = sound_row vs a.1 a.0 ae in
-              record {
-                written = Brackets open'.token row.first row.others close.token;
-                fits = (open'.is, row.fits.0, row.fits.1, close.is);
-                spelled = open'.split ∙ ap (λ y. open'.token ∷ y) (row.spelled ∙ ap (λ y. spell row.first (spell_tail row.others y)) (close.split ∙ ap (λ y. close.token ∷ y) (same_1 _ _ _ _ e5)));
-                means = row.means ∙ same_0 _ _ _ _ e5;
-              }
+          | inr (o', e2) ↦ elim (or_else_cases (pair_front d ts) _ _ _ e2) [
+            | inl (vs, p, e3) ↦
+                let h = pair_is d ts vs p in
+                let place : h.open'.place ≡ place_at ts = sym (ap place_at h.split) in
+                let w = sound_pair h.open' h.word h.close h.brace vs us t h.is_open h.is_word h.is_close h.is_brace (ap (λ p. pair_with d R p vs) place ∙ e3) in
+                record { written = w.written; fits = w.fits; spelled = h.split ∙ w.spelled; means = w.means }
+            | inr (p, e3) ↦ sound_brackets ts us t e3
+          ]
         ]
       ]
 

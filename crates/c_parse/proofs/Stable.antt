@@ -1,16 +1,17 @@
 -- With enough depth the answer doesn't depend on it, so that reading has equations without it.
 use Rattle.std.proofs.Common.{◌≡◌, ℕ, zero, suc, ◌+◌, ◌*◌, ◌≤◌, ◌<◌, List, [], ◌∷◌, ◌++◌, length, Option, Some, None, refl, ◌∙◌, ap, arith}
 use Rattle.c_text.specs.declared.tokens.Dialect.{Dialect}
+use Rattle.c_text.specs.declared.tokens.Place.{Place}
 use Rattle.c_text.specs.declared.tokens.Token.{Token}
 use Rattle.c_tree.specs.declared.types.CType.{CType}
 use Rattle.c_tree.specs.Tree.{Tree, Trees}
 use Rattle.c_parse.specs.declared.symbols.Sign.{Sign}
-use Rattle.c_parse.specs.declared.symbols.Sign.TheVariants.{Open, Close, OpenSquare, Comma, Question, Colon, SizeOf}
+use Rattle.c_parse.specs.declared.symbols.Sign.TheVariants.{Open, Close, OpenSquare, Comma, Question, Colon, SizeOf, OpenBrace}
 use Rattle.c_parse.specs.declared.symbols.Symbol.{Symbol}
 use Rattle.c_parse.specs.declared.symbols.Symbol.TheVariants as symbols
-use Rattle.c_parse.specs.Reading.{◌>>=◌, or_else, front, place_at, behind, past, node, level_of, infix_at, infix_kind, assignment_behind, step_of, prefix_of, name_front, constant_front, type_front, cast_front, Goal, Assignment, Conditional, Operators, Operand, Prefixed, Base, Others, Readers, expression_with, arguments_with, others_with, choice_with, conditional_from, conditional_with, assignment_with, operators_with, operand_with, index_with, postfix_with, prefixed_with, base_with, step, read_at, rank, weight, read}
-use Rattle.c_parse.specs.Grammar.{Written, Tail, Constant, Named, Bare, Call, Brackets, Index, After, Before, Prefix, SizeOfType, SizeOfName, SizeOfBracketed, Cast, Between, Choice, Assign, End, Then, spell, spell_tail}
-use Rattle.c_parse.proofs.Fronts.{bind_some, past_is, name_is, front_is, infix_is, type_is}
+use Rattle.c_parse.specs.Reading.{◌>>=◌, or_else, front, place_at, behind, past, node, level_of, infix_at, infix_kind, assignment_behind, step_of, prefix_of, name_front, constant_front, cast_front, Goal, Assignment, Conditional, Operators, Operand, Prefixed, Base, Others, Readers, expression_with, arguments_with, others_with, choice_with, conditional_from, conditional_with, assignment_with, operators_with, operand_with, index_with, half_behind, postfix_with, prefixed_with, pair_front, pair_with, base_with, step, read_at, rank, weight, read}
+use Rattle.c_parse.specs.Grammar.{Written, Tail, Constant, Named, Bare, Call, Brackets, Pair, Half, Index, After, Before, Prefix, SizeOfType, SizeOfName, SizeOfBracketed, Cast, Between, Choice, Assign, End, Then, spell, spell_tail}
+use Rattle.c_parse.proofs.Fronts.{bind_some, past_is, name_is, front_is, infix_is, cast_is, pair_is}
 use Rattle.c_parse.proofs.Sound.{Wrote, WroteTail, Sound, sound, level_max, none_past}
 
 longer_words : (w ts : List Token) → length ts ≤ length (w ++ ts)
@@ -24,6 +25,8 @@ mutual
   longer (Bare f o c) ts = omega arith
   longer (Call f o a rest c) ts = let h = longer_tail rest (c ∷ ts) in let k = longer a (spell_tail rest (c ∷ ts)) in omega arith
   longer (Brackets o a rest c) ts = let h = longer_tail rest (c ∷ ts) in let k = longer a (spell_tail rest (c ∷ ts)) in omega arith
+  longer (Pair o w c b1 b2 a m b e1 e2) ts = let h = longer b (e1 ∷ e2 ∷ ts) in let k = longer a (m ∷ spell b (e1 ∷ e2 ∷ ts)) in omega arith
+  longer (Half a o v s n k c) ts = let h = longer a (o ∷ v ∷ s ∷ n ∷ c ∷ ts) in omega arith
   longer (Index a o b rest c) ts =
       let h = longer_tail rest (c ∷ ts) in
       let k = longer b (spell_tail rest (c ∷ ts)) in
@@ -58,19 +61,11 @@ tail_shrinks d ts us t w = let h = longer_tail w.written us in omega (arith, ap 
 pub past_shrinks : (d : Dialect) (s : Sign) (ts us : List Token) → past d s ts ≡ Some us → length us < length ts
 past_shrinks d s ts us e = omega (arith, ap length (past_is d s ts us e).split)
 
-pub type_shrinks : (d : Dialect) (ts : List Token) (x : CType × List Token) → type_front d ts ≡ Some x → length x.1 ≤ length ts
-type_shrinks d ts x e = let n = type_is d ts x e in let h = longer_words n.words x.1 in omega (arith, ap length n.split)
-
 pub cast_shrinks : (d : Dialect) (ts : List Token) (x : CType × List Token) → cast_front d ts ≡ Some x → length x.1 < length ts
-cast_shrinks d ts x e =
-    let (us, p, e1) = bind_some (past d Open ts) _ _ e in
-    let (ty, q, e2) = bind_some (type_front d us) _ _ e1 in
-    let (vs, r, e3) = bind_some (past d Close ty.1) _ _ e2 in
-    let rest : vs ≡ x.1 = ap (λ (o : Option (CType × List Token)). or_else o (λ y. y.1) vs) e3 in
-    let a = past_shrinks d Open ts us p in
-    let b = type_shrinks d us ty q in
-    let c = past_shrinks d Close ty.1 vs r in
-    omega (arith, ap length rest)
+cast_shrinks d ts x e = let h = cast_is d ts x e in let k = longer_words h.words (h.close ∷ x.1) in omega (arith, ap length h.split)
+
+pub pair_shrinks : (d : Dialect) (ts us : List Token) → pair_front d ts ≡ Some us → length us < length ts
+pair_shrinks d ts us e = omega (arith, ap length (pair_is d ts us e).split)
 
 pub name_shrinks : (d : Dialect) (ts : List Token) (x : Token × List Token) → name_front d ts ≡ Some x → length x.1 < length ts
 name_shrinks d ts x e = omega (arith, ap length (name_is d ts x e).1)
@@ -172,7 +167,8 @@ module _ (d : Dialect) (R Q : Readers) (s : Sound d R) (m : ℕ) (agree : (g : G
   same_postfix : (ts : List Token) → 6 * length ts + 3 ≤ m → postfix_with d R ts ≡ postfix_with d Q ts
   same_postfix ts h = bind_same (R Base ts) _ _ _ (agree Base ts (omega arith)) (λ b be.
       let short = shrinks d 17 ts b.1 b.0 (s Base ts b.1 b.0 be) in
-      bind_same (index_with d R b.0 b.1) _ _ _ (same_index b.0 b.1 (omega arith)) (λ i ie. refl))
+      or_else_same (half_behind d (constant_front ts) b.1) _ _ _ _ (λ x o. refl)
+      (bind_same (index_with d R b.0 b.1) _ _ _ (same_index b.0 b.1 (omega arith)) (λ i ie. refl)))
 
   same_prefixed : (ts : List Token) → 6 * length ts + 3 ≤ m → prefixed_with d R ts ≡ prefixed_with d Q ts
   same_prefixed ts h = or_else_same (prefix_of (front d ts)) _ _ _ _ (λ op o.
@@ -183,16 +179,29 @@ module _ (d : Dialect) (R Q : Readers) (s : Sound d R) (m : ℕ) (agree : (g : G
       bind_same (R Prefixed (behind ts)) _ _ _ (agree Prefixed (behind ts) (omega arith)) (λ a ae. refl))
       (or_else_same (past d SizeOf ts) _ _ _ _ (λ us o. refl) (same_postfix ts h)))
 
+  same_pair : (p : Place) (ts : List Token) → 6 * length ts + 5 < m → pair_with d R p ts ≡ pair_with d Q p ts
+  same_pair p ts h = bind_same (past d OpenBrace ts) _ _ _ refl (λ us o.
+      let short = past_shrinks d OpenBrace ts us o in
+      bind_same (R Assignment us) _ _ _ (agree Assignment us (omega arith)) (λ a ae.
+      let short_a = shrinks d 1 us a.1 a.0 (s Assignment us a.1 a.0 ae) in
+      bind_same (past d Comma a.1) _ _ _ refl (λ vs o'.
+      let short_vs = past_shrinks d Comma a.1 vs o' in
+      bind_same (R Assignment vs) _ _ _ (agree Assignment vs (omega arith)) (λ b be. refl))))
+
   same_base : (ts : List Token) → 6 * length ts + 2 ≤ m → base_with d R ts ≡ base_with d Q ts
-  same_base ts h = or_else_same (constant_front d ts) _ _ _ _ (λ c o. refl) (or_else_same (name_front d ts) _ _ _ _
+  same_base ts h = or_else_same (constant_front ts) _ _ _ _ (λ c o. refl) (or_else_same (name_front d ts) _ _ _ _
       (λ x o.
       let short = name_shrinks d ts x o in
       or_else_same (past d Open x.1) _ _ _ _ (λ us p.
       let short_us = past_shrinks d Open x.1 us p in
       bind_same (arguments_with d R us) _ _ _ (same_arguments us (omega arith)) (λ r re. refl)) refl)
+      (or_else_same (pair_front d ts) _ _ _ _
+      (λ us o.
+      let short = pair_shrinks d ts us o in
+      same_pair (place_at ts) us (omega arith))
       (bind_same (past d Open ts) _ _ _ refl (λ us o.
       let short = past_shrinks d Open ts us o in
-      bind_same (expression_with R us) _ _ _ (same_row us (omega arith)) (λ a ae. refl))))
+      bind_same (expression_with R us) _ _ _ (same_row us (omega arith)) (λ a ae. refl)))))
 
   step_same : (g : Goal) (ts : List Token) → weight g ts ≤ m → step d R g ts ≡ step d Q g ts
   step_same Assignment ts h = same_assignment ts h

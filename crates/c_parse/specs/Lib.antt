@@ -2,3 +2,13 @@ pub mod Symbols
 pub mod Types
 pub mod Reading
 pub mod Grammar
+pub mod Repeated
+pub mod Objects
+pub mod Declarations
+pub mod DeclarationReading
+pub mod DeclarationViews
+pub mod Statements
+pub mod StatementReading
+pub mod Items
+pub mod ItemReading
+pub mod Limits

@@ -1,24 +1,37 @@
 -- Reading from left to right: what the parser finds, without places in memory.
-use Rattle.std.specs.Prelude.{◌≡◌, ℕ, zero, suc, ◌+◌, ◌*◌, List, [], ◌∷◌, length, Bool, true, false, nat_le, ◌==◌, if◌then◌else◌, Option, Some, None, option_map, ℤ, pos, negsuc, int_le, refl}
+use Rattle.std.specs.Prelude.{◌≡◌, ℕ, zero, suc, ◌+◌, ◌*◌, List, [], ◌∷◌, length, Bool, true, false, nat_le, ◌==◌, ◌&&◌, codes, bytes_eq, if◌then◌else◌, Option, Some, None, option_map, map, Result, Ok, Err, ℤ, pos, negsuc, int_le, refl}
 use Rattle.std.specs.Int.Signed.{le_z_yes}
 use Rattle.std.proofs.lemmas.Float.{T_from_true}
 use Rattle.c_text.specs.declared.tokens.Dialect.{Dialect}
+use Rattle.c_text.specs.declared.tokens.Dialect.TheVariants.{X86, Neon}
 use Rattle.c_text.specs.declared.tokens.Place.{Place}
 use Rattle.c_text.specs.declared.tokens.Token.{Token}
+use Rattle.c_text.specs.declared.tokens.TokenKind.{TokenKind}
+use Rattle.c_text.specs.declared.tokens.TokenKind.TheVariants as kinds
 use Rattle.lane_core.specs.IntRange.{least, greatest}
 use Rattle.lane_core.specs.declared.number.BinOp.{BinOp}
 use Rattle.lane_core.specs.declared.number.BinOp.TheVariants as ops
 use Rattle.lane_core.specs.declared.number.UnOp.TheVariants.{Plus, Neg, BitNot, Not}
 use Rattle.lane_core.specs.declared.number.IntType.{IntType}
+use Rattle.lane_core.specs.declared.number.IntType.TheVariants.{Int}
 use Rattle.lane_core.specs.declared.number.Num.{Num}
 use Rattle.c_preproc.specs.Constant.{constant_of}
 use Rattle.c_tree.specs.declared.types.CType.{CType}
 use Rattle.c_tree.specs.declared.types.CType.TheVariants.{Void}
-use Rattle.c_tree.specs.Tree.{Tree, Kind, Trees, Node, Const, Name, Unary, Step, Binary, AndThen, OrElse, Choice, Assign, Comma, Cast, Index, Deref, Address, Call, SizeOfType, SizeOfName, NoTrees, More}
+use Rattle.c_tree.specs.declared.types.CType.TheVariants as ctypes
+use Rattle.c_tree.specs.Tree.{Tree, Kind, Trees, Node, Const, Name, Unary, Step, Binary, AndThen, OrElse, Choice, Assign, Comma, Cast, Index, Deref, Address, Call, Half, PairOf, SizeOfType, SizeOfName, NoTrees, More}
+use Rattle.c_parse.specs.declared.nodes.Stuck.{Stuck}
+use Rattle.c_parse.specs.declared.nodes.Stuck.TheVariants as stucks
+use Rattle.c_parse.specs.declared.peeks.Prefix.{Prefix}
+use Rattle.c_parse.specs.declared.peeks.Prefix.TheVariants as prefixes
+use Rattle.std.specs.Borrow.{Bor}
+use Rattle.c_tree.specs.declared.expressions.Expr.{Expr}
+use Rattle.c_tree.specs.View.{view, and_more}
 use Rattle.c_parse.specs.declared.symbols.Infix.{Infix}
 use Rattle.c_parse.specs.declared.symbols.Infix.TheVariants as infixes
 use Rattle.c_parse.specs.declared.symbols.Sign.{Sign}
 use Rattle.c_parse.specs.declared.symbols.Sign.TheVariants as signs
+use Rattle.c_parse.specs.declared.symbols.TypeWord.TheVariants as words
 use Rattle.c_parse.specs.declared.symbols.Symbol.{Symbol}
 use Rattle.c_parse.specs.declared.symbols.Symbol.TheVariants as symbols
 use Rattle.c_parse.specs.declared.types.Specifiers.{Specifiers}
@@ -57,6 +70,10 @@ code signs.Comma = 4
 code signs.Question = 5
 code signs.Colon = 6
 code signs.SizeOf = 7
+code signs.Dot = 8
+code signs.OpenBrace = 9
+code signs.CloseBrace = 10
+code signs.Semicolon = 11
 
 abbrev pub is_sign : Sign → Symbol → Bool
 is_sign s (symbols.Sign r) = code s == code r
@@ -135,18 +152,24 @@ number_where t z false high p q = None
 unfoldable pub number : IntType → ℤ → Option Num
 number t z = number_where t z (int_le (least t) z) (int_le z (greatest t)) refl refl
 
--- a constant that is negative, as some character constants are, stands as the negation of its magnitude
+-- the number, or the negation of it
+abbrev pub signed_tree : Bool → Place → Num → Tree
+signed_tree false p k = node p (Const k)
+signed_tree true p k = node p (Unary Neg (node p (Const k)))
+
+-- A constant that is negative stands as the negation of its magnitude. Only character constants are (C11 6.4.4.4p10):
+-- they have the type `int` and the value of a byte that is read as a signed number.
 abbrev pub constant_tree : Place → IntType → ℤ → Option Tree
-constant_tree p t (pos n) = option_map (λ k. node p (Const k)) (number t (pos n))
-constant_tree p t (negsuc n) = option_map (λ k. node p (Unary Neg (node p (Const k)))) (number t (pos (n + 1)))
+constant_tree p t (pos n) = option_map (signed_tree false p) (number t (pos n))
+constant_tree p t (negsuc n) = if nat_le n 127 then option_map (signed_tree true p) (number Int (pos (n + 1))) else None
 
 -- the tree of a token that is a constant
 unfoldable pub constant_at : Token → Option Tree
 constant_at t = constant_of t.kind t.text >>= λ c. constant_tree t.place c.0 c.1
 
-abbrev pub constant_front : Dialect → List Token → Option (Tree × List Token)
-constant_front d [] = None
-constant_front d (t ∷ ts) = constant_at t >>= λ c. Some (c, ts)
+abbrev pub constant_front : List Token → Option (Tree × List Token)
+constant_front [] = None
+constant_front (t ∷ ts) = constant_at t >>= λ c. Some (c, ts)
 
 abbrev pub is_name : Symbol → Bool
 is_name symbols.Name = true
@@ -196,9 +219,48 @@ type_behind d r =
 unfoldable pub type_front : Dialect → List Token → Option (CType × List Token)
 type_front d ts = type_behind d (specifiers_front d no_specifiers ts)
 
--- a type in brackets in front: with an expression behind it, a cast
+-- what doesn't begin with this sign
+abbrev pub without : Dialect → Sign → List Token → Option (List Token)
+without d s ts = if is_sign s (front d ts) then None else Some ts
+
+-- a type in brackets in front, with no brace behind it: with an expression behind it, a cast
 abbrev pub cast_front : Dialect → List Token → Option (CType × List Token)
-cast_front d ts = past d signs.Open ts >>= λ us. type_front d us >>= λ t. past d signs.Close t.1 >>= λ vs. Some (t.0, vs)
+cast_front d ts = past d signs.Open ts >>= λ us. type_front d us >>= λ t. past d signs.Close t.1 >>= λ vs. without d signs.OpenBrace vs >>= λ ws. Some (t.0, ws)
+
+-- the type of pairs in brackets and the first brace in front: behind it are the two halves of a pair
+abbrev pub is_pair : Symbol → Bool
+is_pair (symbols.Type (words.Whole ctypes.Pair)) = true
+is_pair _ = false
+
+abbrev pub past_pair : Dialect → List Token → Option (List Token)
+past_pair d ts = if is_pair (front d ts) then Some (behind ts) else None
+
+abbrev pub pair_front : Dialect → List Token → Option (List Token)
+pair_front d ts = past d signs.Open ts >>= λ us. past_pair d us >>= λ vs. past d signs.Close vs >>= λ ws. past d signs.OpenBrace ws
+
+-- the name `val`, which names the halves in the Neon dialect
+abbrev pub is_neon : Dialect → Bool
+is_neon X86 = false
+is_neon Neon = true
+
+abbrev pub past_val : Dialect → List Token → Option (List Token)
+past_val d ts = name_front d ts >>= λ x. if is_neon d && bytes_eq x.0.text (codes "val") then Some x.1 else None
+
+-- which half a number names: its text is exactly `0` or `1`
+abbrev pub half_in : TokenKind → List ℕ → Option ℕ
+half_in kinds.Number text = if bytes_eq text (codes "0") then Some 0 else if bytes_eq text (codes "1") then Some 1 else None
+half_in _ text = None
+
+abbrev pub half_of : Token → Option ℕ
+half_of t = half_in t.kind t.text
+
+abbrev pub which_front : List Token → Option (ℕ × List Token)
+which_front [] = None
+which_front (t ∷ ts) = half_of t >>= λ k. Some (k, ts)
+
+-- `.val[0]` or `.val[1]` in front: which half it is
+abbrev pub half_front : Dialect → List Token → Option (ℕ × List Token)
+half_front d ts = past d signs.Dot ts >>= λ us. past_val d us >>= λ vs. past d signs.OpenSquare vs >>= λ ws. which_front ws >>= λ k. past d signs.CloseSquare k.1 >>= λ xs. Some (k.0, xs)
 
 -- what can be read; `Operators l a` are those of level l and tighter ones behind an operand a, `Others` the expressions behind commas
 pub data Goal : Type 0 where
@@ -290,8 +352,18 @@ index_with d R a ts = or_else (past d signs.OpenSquare ts)
 abbrev pub stepped : Dialect → Tree → List Token → Tree × List Token
 stepped d a ts = or_else (step_of (front d ts)) (λ up. (node (place_at ts) (Step a up false), behind ts)) (a, ts)
 
+-- the half behind a base, which is no constant
+abbrev pub half_behind : Dialect → Option (Tree × List Token) → List Token → Option (ℕ × List Token)
+half_behind d (Some constant) ts = None
+half_behind d None ts = half_front d ts
+
+abbrev pub postfix_behind : Dialect → Readers → Option (Tree × List Token) → Tree → List Token → Option (Tree × List Token)
+postfix_behind d R constant a ts = or_else (half_behind d constant ts)
+    (λ h. Some (node (place_at ts) (Half a h.0), h.1))
+    (index_with d R a ts >>= λ i. Some (stepped d i.0 i.1))
+
 abbrev pub postfix_with : Dialect → Readers → List Token → Option (Tree × List Token)
-postfix_with d R ts = R Base ts >>= λ b. index_with d R b.0 b.1 >>= λ i. Some (stepped d i.0 i.1)
+postfix_with d R ts = R Base ts >>= λ b. postfix_behind d R (constant_front ts) b.0 b.1
 
 abbrev pub prefixed_with : Dialect → Readers → List Token → Option (Tree × List Token)
 prefixed_with d R ts = or_else (prefix_of (front d ts))
@@ -305,12 +377,21 @@ named_with d R x ts = or_else (past d signs.Open ts)
     (λ us. arguments_with d R us >>= λ r. Some (node x.place (Call x.text r.0), r.1))
     (Some (node x.place (Name x.text), ts))
 
+-- the halves of a pair, behind its first brace
+abbrev pub pair_with : Dialect → Readers → Place → List Token → Option (Tree × List Token)
+pair_with d R p ts =
+    past d signs.OpenBrace ts >>= λ us. R Assignment us >>= λ a. past d signs.Comma a.1 >>= λ vs. R Assignment vs >>= λ b.
+    past d signs.CloseBrace b.1 >>= λ ws. past d signs.CloseBrace ws >>= λ xs. Some (node p (PairOf a.0 b.0), xs)
+
+abbrev pub brackets_with : Dialect → Readers → List Token → Option (Tree × List Token)
+brackets_with d R ts = past d signs.Open ts >>= λ us. expression_with R us >>= λ a. past d signs.Close a.1 >>= λ vs. Some (a.0, vs)
+
 abbrev pub base_with : Dialect → Readers → List Token → Option (Tree × List Token)
-base_with d R ts = or_else (constant_front d ts)
+base_with d R ts = or_else (constant_front ts)
     (λ c. Some c)
     (or_else (name_front d ts)
     (λ x. named_with d R x.0 x.1)
-    (past d signs.Open ts >>= λ us. expression_with R us >>= λ a. past d signs.Close a.1 >>= λ vs. Some (a.0, vs)))
+    (or_else (pair_front d ts) (λ us. pair_with d R (place_at ts) us) (brackets_with d R ts)))
 
 -- one step of reading, with readers for the parts
 abbrev pub step : Dialect → Readers → Readers
@@ -343,3 +424,19 @@ weight g ts = 6 * length ts + rank g
 -- the same, deep enough for these tokens
 unfoldable pub read : Dialect → Readers
 read d g ts = read_at d (weight g ts) g ts
+
+-- An operator before its operand, as the code has it.
+abbrev pub prefix_kind : Prefix → Tree → Kind
+prefix_kind (prefixes.Unary op) a = Unary op a
+prefix_kind prefixes.Deref a = Deref a
+prefix_kind prefixes.Address a = Address a
+
+-- these trees in front of what was read
+abbrev pub with_front : List Expr → Option (Trees × List Token) → Option (Trees × List Token)
+with_front all o = o >>= λ x. Some (and_more (map view all) x.0, x.1)
+
+-- what a function returned, seen by view, is this answer, unless memory ran out
+abbrev pub Gives : {X Y : Type 0} → (X → Y) → Result (X × Bor (List Token)) Stuck → Option (Y × List Token) → Type 0
+Gives view (Ok x) o = o ≡ Some (view x.0, x.1.now)
+Gives view (Err stucks.Memory) o = Unit {0}
+Gives view (Err (stucks.Syntax n)) o = o ≡ None

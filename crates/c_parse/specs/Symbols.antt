@@ -14,9 +14,10 @@ use Rattle.lane_core.specs.declared.vector.NeonLane.TheVariants.{U8, U16, U32, U
 use Rattle.c_tree.specs.declared.types.CType.TheVariants as ctypes
 use Rattle.c_parse.specs.declared.symbols.Infix.{Infix}
 use Rattle.c_parse.specs.declared.symbols.Infix.TheVariants.{Operator, AndThen, OrElse}
-use Rattle.c_parse.specs.declared.symbols.Sign.TheVariants.{Open, Close, OpenSquare, CloseSquare, Comma, Question, Colon, SizeOf}
+use Rattle.c_parse.specs.declared.symbols.Sign.TheVariants.{Open, Close, OpenSquare, CloseSquare, Comma, Question, Colon, SizeOf, Dot, OpenBrace, CloseBrace, Semicolon}
 use Rattle.c_parse.specs.declared.symbols.Part.TheVariants as parts
 use Rattle.c_parse.specs.declared.symbols.TypeWord.TheVariants as words
+use Rattle.c_parse.specs.declared.symbols.Word.TheVariants as statements
 use Rattle.c_parse.specs.declared.symbols.Symbol.{Symbol}
 use Rattle.c_parse.specs.declared.symbols.Symbol.TheVariants as symbols
 
@@ -36,12 +37,13 @@ assignment_marks =
     (codes "+=", Some Add) ∷ (codes "-=", Some Sub) ∷ (codes "<<=", Some Shl) ∷ (codes ">>=", Some Shr) ∷
     (codes "&=", Some BitAnd) ∷ (codes "^=", Some BitXor) ∷ (codes "|=", Some BitOr) ∷ []
 
--- the other marks of expressions
+-- the other marks
 abbrev pub other_marks : List (List ℕ × Symbol)
 other_marks =
     (codes "(", symbols.Sign Open) ∷ (codes ")", symbols.Sign Close) ∷ (codes "[", symbols.Sign OpenSquare) ∷
     (codes "]", symbols.Sign CloseSquare) ∷ (codes ",", symbols.Sign Comma) ∷ (codes "?", symbols.Sign Question) ∷
-    (codes ":", symbols.Sign Colon) ∷ (codes "++", symbols.Step true) ∷ (codes "--", symbols.Step false) ∷
+    (codes ":", symbols.Sign Colon) ∷ (codes ".", symbols.Sign Dot) ∷ (codes "{", symbols.Sign OpenBrace) ∷
+    (codes "}", symbols.Sign CloseBrace) ∷ (codes ";", symbols.Sign Semicolon) ∷ (codes "++", symbols.Step true) ∷ (codes "--", symbols.Step false) ∷
     (codes "~", symbols.Tilde) ∷ (codes "!", symbols.Exclamation) ∷ []
 
 abbrev pub or_symbol : {A : Type 0} → Option A → (A → Symbol) → Symbol → Symbol
@@ -112,19 +114,28 @@ other_words =
     (codes "sizeof", symbols.Sign SizeOf) ∷ (codes "const", symbols.Const) ∷ (codes "restrict", symbols.Restrict) ∷
     (codes "__restrict", symbols.Restrict) ∷ (codes "__restrict__", symbols.Restrict) ∷ []
 
--- the words that are no names though no expression or type has them (C11 6.4.1)
+-- the words of statements and declarations (C11 6.7.1, 6.7.4, 6.7.5 and 6.8), with the attributes of GNU C
+abbrev pub statement_words : List (List ℕ × Symbol)
+statement_words =
+    (codes "if", symbols.Word statements.If) ∷ (codes "else", symbols.Word statements.Else) ∷
+    (codes "while", symbols.Word statements.While) ∷ (codes "do", symbols.Word statements.Do) ∷
+    (codes "for", symbols.Word statements.For) ∷ (codes "break", symbols.Word statements.Break) ∷
+    (codes "continue", symbols.Word statements.Continue) ∷ (codes "return", symbols.Word statements.Return) ∷
+    (codes "static", symbols.Word statements.Static) ∷ (codes "inline", symbols.Word statements.Inline) ∷
+    (codes "__inline", symbols.Word statements.Inline) ∷ (codes "__inline__", symbols.Word statements.Inline) ∷
+    (codes "_Alignas", symbols.Word statements.AlignAs) ∷ (codes "__attribute__", symbols.Word statements.Attribute) ∷ []
+
+-- the words that are no names though no form has them (C11 6.4.1)
 abbrev pub keywords : List (List ℕ)
 keywords =
-    codes "auto" ∷ codes "break" ∷ codes "case" ∷ codes "continue" ∷ codes "default" ∷ codes "do" ∷ codes "double" ∷
-    codes "else" ∷ codes "enum" ∷ codes "extern" ∷ codes "float" ∷ codes "for" ∷ codes "goto" ∷ codes "if" ∷
-    codes "inline" ∷ codes "register" ∷ codes "return" ∷ codes "static" ∷ []
+    codes "auto" ∷ codes "case" ∷ codes "default" ∷ codes "double" ∷ codes "enum" ∷ codes "extern" ∷ codes "float" ∷
+    codes "goto" ∷ codes "register" ∷ []
 
 abbrev pub later_keywords : List (List ℕ)
 later_keywords =
-    codes "struct" ∷ codes "switch" ∷ codes "typedef" ∷ codes "union" ∷ codes "volatile" ∷ codes "while" ∷
-    codes "_Alignas" ∷ codes "_Alignof" ∷ codes "_Atomic" ∷ codes "_Complex" ∷ codes "_Generic" ∷ codes "_Imaginary" ∷
-    codes "_Noreturn" ∷ codes "_Static_assert" ∷ codes "_Thread_local" ∷ codes "__inline" ∷ codes "__inline__" ∷
-    codes "__attribute__" ∷ []
+    codes "struct" ∷ codes "switch" ∷ codes "typedef" ∷ codes "union" ∷ codes "volatile" ∷ codes "_Alignof" ∷
+    codes "_Atomic" ∷ codes "_Complex" ∷ codes "_Generic" ∷ codes "_Imaginary" ∷ codes "_Noreturn" ∷
+    codes "_Static_assert" ∷ codes "_Thread_local" ∷ []
 
 -- what a word is
 abbrev pub name_symbol : Dialect → List ℕ → Symbol
@@ -132,7 +143,8 @@ name_symbol dialect text =
     or_symbol (lookup (bytes_eq text) type_words) (λ s. s)
     (or_symbol (lookup (bytes_eq text) (vectors dialect)) (λ s. s)
     (or_symbol (lookup (bytes_eq text) other_words) (λ s. s)
-    (if list_any (bytes_eq text) keywords || list_any (bytes_eq text) later_keywords then symbols.Other else symbols.Name)))
+    (or_symbol (lookup (bytes_eq text) statement_words) (λ s. s)
+    (if list_any (bytes_eq text) keywords || list_any (bytes_eq text) later_keywords then symbols.Other else symbols.Name))))
 
 -- what a token of this kind and text is
 abbrev pub symbol_in : Dialect → TokenKind → List ℕ → Symbol

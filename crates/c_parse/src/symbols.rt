@@ -3,7 +3,7 @@
 ghost use Rattle.std.specs.Prelude.{◌≡◌, bytes_eq, map};
 ghost use Rattle.std.specs.Map.{lookup};
 ghost use Rattle.std.specs.List.{list_any};
-ghost use Rattle.c_parse.specs.Symbols.{infix_marks, assignment_marks, other_marks, type_words, x86_vectors, neon_vectors, vectors, other_words, keywords, later_keywords, symbol_of, mark_symbol, name_symbol};
+ghost use Rattle.c_parse.specs.Symbols.{infix_marks, assignment_marks, other_marks, type_words, x86_vectors, neon_vectors, vectors, other_words, statement_words, keywords, later_keywords, symbol_of, mark_symbol, name_symbol};
 
 use c_text::{Dialect, Token, TokenKind};
 use c_tree::{BinOp, CType, IntType, NeonLane};
@@ -27,6 +27,30 @@ pub enum Sign {
     Question,
     Colon,
     SizeOf,
+    /// `.`.
+    Dot,
+    OpenBrace,
+    CloseBrace,
+    Semicolon,
+}
+
+/// A word of statements and declarations (C11 6.7.1, 6.7.4, 6.7.5 and 6.8), with the attributes of GNU C.
+#[derive(Clone, Copy, Debug, PartialEq, Eq)]
+pub enum Word {
+    If,
+    Else,
+    While,
+    Do,
+    For,
+    Break,
+    Continue,
+    Return,
+    Static,
+    Inline,
+    /// `_Alignas`.
+    AlignAs,
+    /// `__attribute__`.
+    Attribute,
 }
 
 /// A word that is a part of an integer type's name (C11 6.7.2).
@@ -66,6 +90,7 @@ pub enum Symbol {
     Const,
     /// `restrict`.
     Restrict,
+    Word(Word),
     /// A name that is no keyword.
     Name,
     /// A number or a character constant.
@@ -130,6 +155,10 @@ fn other_mark(text: &[u8]) -> Option<Symbol>
         b"," => Some(Symbol::Sign(Sign::Comma)),
         b"?" => Some(Symbol::Sign(Sign::Question)),
         b":" => Some(Symbol::Sign(Sign::Colon)),
+        b"." => Some(Symbol::Sign(Sign::Dot)),
+        b"{" => Some(Symbol::Sign(Sign::OpenBrace)),
+        b"}" => Some(Symbol::Sign(Sign::CloseBrace)),
+        b";" => Some(Symbol::Sign(Sign::Semicolon)),
         b"++" => Some(Symbol::Step(true)),
         b"--" => Some(Symbol::Step(false)),
         b"~" => Some(Symbol::Tilde),
@@ -288,35 +317,41 @@ static OTHER_WORDS: [(&[u8], Symbol); 5] = [
     (b"__restrict__", Symbol::Restrict),
 ];
 
-static KEYWORDS: [&[u8]; 18] = [
+static STATEMENT_WORDS: [(&[u8], Symbol); 14] = [
+    (b"if", Symbol::Word(Word::If)),
+    (b"else", Symbol::Word(Word::Else)),
+    (b"while", Symbol::Word(Word::While)),
+    (b"do", Symbol::Word(Word::Do)),
+    (b"for", Symbol::Word(Word::For)),
+    (b"break", Symbol::Word(Word::Break)),
+    (b"continue", Symbol::Word(Word::Continue)),
+    (b"return", Symbol::Word(Word::Return)),
+    (b"static", Symbol::Word(Word::Static)),
+    (b"inline", Symbol::Word(Word::Inline)),
+    (b"__inline", Symbol::Word(Word::Inline)),
+    (b"__inline__", Symbol::Word(Word::Inline)),
+    (b"_Alignas", Symbol::Word(Word::AlignAs)),
+    (b"__attribute__", Symbol::Word(Word::Attribute)),
+];
+
+static KEYWORDS: [&[u8]; 9] = [
     b"auto",
-    b"break",
     b"case",
-    b"continue",
     b"default",
-    b"do",
     b"double",
-    b"else",
     b"enum",
     b"extern",
     b"float",
-    b"for",
     b"goto",
-    b"if",
-    b"inline",
     b"register",
-    b"return",
-    b"static",
 ];
 
-static LATER_KEYWORDS: [&[u8]; 18] = [
+static LATER_KEYWORDS: [&[u8]; 13] = [
     b"struct",
     b"switch",
     b"typedef",
     b"union",
     b"volatile",
-    b"while",
-    b"_Alignas",
     b"_Alignof",
     b"_Atomic",
     b"_Complex",
@@ -325,9 +360,6 @@ static LATER_KEYWORDS: [&[u8]; 18] = [
     b"_Noreturn",
     b"_Static_assert",
     b"_Thread_local",
-    b"__inline",
-    b"__inline__",
-    b"__attribute__",
 ];
 
 // The symbol beside a word in a table.
@@ -344,7 +376,7 @@ fn find(text: &[u8], rows: &[(&[u8], Symbol)]) -> Option<Symbol>
     None
 }
 
-fn is_among(word: &[u8], words: &[&[u8]]) -> bool
+pub fn is_among(word: &[u8], words: &[&[u8]]) -> bool
     ensures { result ≡ list_any (λ w. bytes_eq word.now w.now) words.now }
 {
     words.iter().any(|w| word == *w)
@@ -372,6 +404,12 @@ fn other_symbol(text: &[u8]) -> Option<Symbol>
     ensures { result ≡ lookup (bytes_eq text.now) other_words }
 {
     find(text, &OTHER_WORDS)
+}
+
+fn statement_symbol(text: &[u8]) -> Option<Symbol>
+    ensures { result ≡ lookup (bytes_eq text.now) statement_words }
+{
+    find(text, &STATEMENT_WORDS)
 }
 
 fn vector_symbol(dialect: Dialect, text: &[u8]) -> Option<Symbol>
@@ -405,6 +443,9 @@ fn name_symbol(dialect: Dialect, text: &[u8]) -> Symbol
         return symbol;
     }
     if let Some(symbol) = other_symbol(text) {
+        return symbol;
+    }
+    if let Some(symbol) = statement_symbol(text) {
         return symbol;
     }
     if is_keyword(text) || is_later_keyword(text) {

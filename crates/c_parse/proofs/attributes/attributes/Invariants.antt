@@ -1,0 +1,13 @@
+use Rattle.std.proofs.Common.{◌≡◌, ◌≤◌, length, option_map}
+use Rattle.c_tree.specs.View.{view}
+use Rattle.c_parse.specs.DeclarationReading.{attributes_front}
+use Rattle.c_parse.proofs.attributes.attributes.Given as goal
+
+abbrev pub invariant-loop-behind : goal.invariant-loop-behind
+invariant-loop-behind l = record {
+  shorter : length l.left ≤ length l.tokens;
+  goes : attributes_front l.dialect (option_map view l.fn.align) l.tokens ≡ attributes_front l.dialect (option_map view l.found) l.left;
+}
+
+abbrev pub decreases-loop-behind : goal.decreases-loop-behind
+decreases-loop-behind l = length l.left
