@@ -1,0 +1,86 @@
+-- A text as words with white space between them, and when it is cut back into these.
+use Rattle.std.specs.Prelude.{◌≡◌, ℕ, List, [], ◌∷◌, ◌++◌, length, Bool, true, false, not, ◌&&◌, ◌||◌, ◌==◌, codes}
+use Rattle.c_text.specs.declared.tokens.TokenKind.{TokenKind}
+use Rattle.c_text.specs.declared.tokens.Token.{Token}
+use Rattle.c_text.specs.declared.pieces.Sort.{Sort}
+use Rattle.c_text.specs.declared.pieces.Sort.TheVariants.{Lexeme, Blank, LineEnd}
+use Rattle.c_text.specs.Forms.{is_within, is_one_of, all_are, starts, is_digit, is_name_byte, goes_on, is_mark_pair, is_mark_triple}
+use Rattle.c_text.specs.Reading.{piece_at}
+
+-- a word, or a byte of white space; it has one byte at least
+pub record Bit : Type 0 where
+  pub sort : Sort
+  pub first : ℕ
+  pub others : List ℕ
+
+abbrev pub bit_text : Bit → List ℕ
+bit_text b = b.first ∷ b.others
+
+abbrev pub bits_text : List Bit → List ℕ → List ℕ
+bits_text [] rest = rest
+bits_text (b ∷ bs) rest = b.first ∷ (b.others ++ bits_text bs rest)
+
+-- in front of the rest, the text of these is cut into them
+abbrev pub CutsBack : List Bit → List ℕ → Type 0
+CutsBack [] rest = Unit {0}
+CutsBack (b ∷ bs) rest = (piece_at b.first (b.others ++ bits_text bs rest) ≡ (b.sort, length b.others)) × CutsBack bs rest
+
+-- a name ends in front of these bytes: none of a name follows, and no quote, which a name may be the prefix of (C11 6.4.2, 6.4.4.4, 6.4.5)
+abbrev pub goes_on_name : ℕ → Bool
+goes_on_name c = is_name_byte c || ((c == 39) || (c == 34))
+
+abbrev pub ends_name : List ℕ → Bool
+ends_name rest = not (starts goes_on_name rest)
+
+-- the last of these bytes
+abbrev pub last_of : ℕ → List ℕ → ℕ
+last_of b [] = b
+last_of b (c ∷ cs) = last_of c cs
+
+-- a number whose last byte is this one ends in front of these bytes (C11 6.4.8)
+abbrev pub ends_number : ℕ → List ℕ → Bool
+ends_number last rest = not (starts (goes_on last) rest)
+
+-- a mark of one byte ends in front of these bytes: it makes no longer mark with them, and begins neither a comment nor a number
+-- (C11 6.4.6, 6.4.8, 6.4.9)
+abbrev pub goes_on_mark : ℕ → ℕ → Bool
+goes_on_mark a c =
+    is_mark_pair a c || (((a == c) && is_one_of (codes ".<>") a) || (((a == 47) && ((c == 42) || (c == 47))) || ((a == 46) && is_digit c)))
+
+abbrev pub ends_mark : ℕ → List ℕ → Bool
+ends_mark a rest = not (starts (goes_on_mark a) rest)
+
+-- the same of a mark of two bytes
+abbrev pub ends_pair : ℕ → ℕ → List ℕ → Bool
+ends_pair a b rest = not (starts (is_mark_triple a b) rest)
+
+-- a byte that a written text may have: printable, and no backslash; or a space or a line end
+abbrev pub is_plain_byte : ℕ → Bool
+is_plain_byte b = (is_within 32 126 b && not (b == 92)) || (b == 10)
+
+-- a token, a space or a line end
+abbrev pub is_plain_sort : Sort → Bool
+is_plain_sort (Lexeme kind) = true
+is_plain_sort Blank = true
+is_plain_sort LineEnd = true
+is_plain_sort _ = false
+
+abbrev pub is_plain_bit : Bit → Bool
+is_plain_bit b = is_plain_sort b.sort && (is_plain_byte b.first && all_are is_plain_byte b.others)
+
+abbrev pub all_plain : List Bit → Bool
+all_plain [] = true
+all_plain (b ∷ bs) = is_plain_bit b && all_plain bs
+
+-- the tokens among these: what they are, and their bytes
+abbrev pub word_of : Sort → List ℕ → List (TokenKind × List ℕ)
+word_of (Lexeme kind) text = (kind, text) ∷ []
+word_of _ text = []
+
+abbrev pub words_of : List Bit → List (TokenKind × List ℕ)
+words_of [] = []
+words_of (b ∷ bs) = word_of b.sort (bit_text b) ++ words_of bs
+
+-- what a token is, and its bytes
+abbrev pub said : Token → TokenKind × List ℕ
+said t = (t.kind, t.text)

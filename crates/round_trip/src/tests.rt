@@ -1,0 +1,12 @@
+//! The laws are called.
+
+use super::*;
+use std::test::Fail;
+
+#[test]
+fn laws_hold(_rt: HostRuntime) -> Result<(), Fail> {
+    printed_units_are_read_again();
+    good_units_are_read_again();
+    a_text_has_one_list_of_tokens();
+    Ok(())
+}
