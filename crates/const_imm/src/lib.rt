@@ -9,3 +9,4 @@ mod tests;
 
 pub use c_tree::{Expr, Num, Place};
 pub use expressions::{NotConst, eval_const};
+pub use sizes::size_of;

@@ -1,0 +1,4 @@
+pub mod Arguments
+pub mod Complete
+pub mod Sound
+pub mod TypeTests

@@ -1,0 +1,4 @@
+pub mod Types
+pub mod Operations
+pub mod Passing
+pub mod Rules
