@@ -1,0 +1,13 @@
+//! The names that a place in a unit sees: objects in scopes, and functions of the unit (C11 6.2.1).
+//!
+//! Look-ups take the time of a few of a map: one for each scope around the place.
+#![tactic(auto)]
+
+mod environment;
+mod names;
+
+pub use c_text::Dialect;
+pub use c_tree::{CType, Text};
+pub use environment::{Callee, Environment, Object};
+pub use names::Names;
+pub use type_rules::{Heading, Parameter};
