@@ -29,6 +29,19 @@ pub struct Heading {
     pub params: Vec<Parameter>,
 }
 
+impl Heading {
+    /// The same heading once more. The only error is want of memory.
+    pub fn copy(&self, alloc: Global) -> Result<Heading, AllocError>
+        ensures { IfOk result (λ h. heading h ≡ heading self.now) }
+    {
+        let params = Vec::from_slice(alloc, self.params.as_slice())?;
+        Ok(Heading {
+            result: self.result,
+            params,
+        })
+    }
+}
+
 fn kind_type(kind: ParamKind) -> CType
     ensures { result ≡ kind_type kind }
 {

@@ -1,0 +1,5 @@
+pub mod Marks
+pub mod Names
+pub mod Objects
+pub mod Check
+pub mod Typed

@@ -1,0 +1,12 @@
+//! Types of expressions: the expression with every type set and each conversion a cast, or the first node that fails.
+#![tactic(auto)]
+
+mod check;
+mod marks;
+mod names;
+mod objects;
+
+pub use c_text::{Dialect, Fail, Refusal};
+pub use c_tree::{CType, Expr, ExprKind, Place, Text};
+pub use check::check_expression;
+pub use scopes::{Callee, Environment, Names, Object};

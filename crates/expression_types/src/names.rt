@@ -1,0 +1,178 @@
+//! What names stand for.
+
+ghost use Rattle.std.specs.Prelude.{◌≡◌, IfOk, true, option_map, is_some, take, codes, ◌≤◌};
+ghost use Rattle.lane_core.specs.declared.table.ImmRange.TheVariants.{NoImmediate};
+ghost use Rattle.scopes.specs.Scopes.{env_of, named, same_name};
+ghost use Rattle.type_rules.specs.Passing.{heading};
+ghost use Rattle.expression_types.specs.Names.{row_named, row_of, target_of, is_widening, widening, is_unknown_intrinsic, is_function};
+ghost use Rattle.expression_types.specs.Check.{Gives, used, used_as, called, object_called, function_called, row_called};
+
+use crate::marks::name_fault;
+use c_text::{Dialect, Fail, Place, Text};
+use c_tree::CType;
+use scopes::{Environment, Object};
+use std::alloc::{AllocError, Global};
+use type_rules::{Heading, ImmRange, Parameter, row_heading};
+
+/// A row as calls see it.
+#[derive(Drop)]
+struct Row {
+    heading: Heading,
+    range: ImmRange,
+}
+
+/// What is called.
+#[derive(Drop)]
+pub struct Target {
+    pub heading: Heading,
+    /// The values that the immediate may have, if there is one.
+    pub range: ImmRange,
+    /// Whether the profile leaves the call out.
+    pub outside: bool,
+}
+
+const WIDENING: &[u8] = b"_mm256_castsi128_si256";
+
+// Whether the dialect's table has a row of this name.
+fn is_row(dialect: Dialect, name: &[u8]) -> bool
+    ensures { result ≡ is_some (row_named dialect name.now) }
+{
+    match dialect {
+        Dialect::X86 => intel_table::find(name).is_some(),
+        Dialect::Neon => neon_table::find(name).is_some(),
+    }
+}
+
+fn row_named(alloc: Global, dialect: Dialect, name: &[u8]) -> Result<Option<Row>, AllocError>
+    ensures { IfOk result (λ r. option_map row_of r ≡ row_named dialect name.now) }
+{
+    match dialect {
+        Dialect::X86 => match intel_table::find(name) {
+            None => Ok(None),
+            Some(op) => {
+                let heading = row_heading(alloc, &intel_table::signature(op))?;
+                let range = intel_table::range(op);
+                Ok(Some(Row { heading, range }))
+            }
+        },
+        Dialect::Neon => match neon_table::find(name) {
+            None => Ok(None),
+            Some(op) => {
+                let heading = row_heading(alloc, &neon_table::signature(op))?;
+                let range = neon_table::range(op);
+                Ok(Some(Row { heading, range }))
+            }
+        },
+    }
+}
+
+fn is_widening(dialect: Dialect, name: &[u8]) -> bool
+    ensures { result ≡ is_widening dialect name.now }
+{
+    match dialect {
+        Dialect::X86 => name == WIDENING,
+        Dialect::Neon => false,
+    }
+}
+
+// `_mm256_castsi128_si256`, which is no row.
+fn widening(alloc: Global) -> Result<Target, AllocError>
+    ensures { IfOk result (λ t. target_of t ≡ record { heading = widening; range = NoImmediate; outside = true }) }
+{
+    let params = Vec::from_slice(alloc, &[Parameter::Object(CType::M128)])?;
+    Ok(Target {
+        heading: Heading {
+            result: CType::M256,
+            params,
+        },
+        range: ImmRange::NoImmediate,
+        outside: true,
+    })
+}
+
+// The first three bytes, or all where there are fewer.
+fn front(name: &[u8]) -> &[u8]
+    ensures { result.now ≡ take 3 name.now }
+{
+    if name.len() > 3 { &name[..3] } else { name }
+}
+
+fn is_unknown_intrinsic(env: &Environment, name: &[u8]) -> bool
+    ensures { result ≡ is_unknown_intrinsic name.now (env_of env.now) }
+{
+    front(name) == b"_mm".as_slice() && !is_row(env.dialect, name) && name != WIDENING
+}
+
+fn is_function(env: &Environment, name: &[u8]) -> bool
+    ensures { result ≡ is_function name.now (env_of env.now) }
+{
+    env.function(name).is_some() || is_row(env.dialect, name) || is_widening(env.dialect, name)
+}
+
+/// The object that the name stands for. A function's name is refused 18, any other that nothing declares 10.
+pub fn used(alloc: Global, env: &Environment, place: Place, name: &Text) -> Result<Object, Fail>
+    ensures { Gives (λ o. o) result (used name.now place (env_of env.now)) }
+{
+    match env.object(name.bytes()) {
+        Some(object) => Ok(object),
+        None => if is_function(env, name.bytes()) {
+            Err(name_fault(alloc, 18, place, name)?)
+        } else {
+            Err(name_fault(alloc, 10, place, name)?)
+        },
+    }
+}
+
+fn row_called(alloc: Global, env: &Environment, place: Place, name: &Text) -> Result<Target, Fail>
+    ensures { Gives target_of result (row_called name.now place (env_of env.now) (row_named env.now.dialect name.now)) }
+{
+    match row_named(alloc, env.dialect, name.bytes())? {
+        Some(row) => Ok(Target {
+            heading: row.heading,
+            range: row.range,
+            outside: false,
+        }),
+        None => if is_widening(env.dialect, name.bytes()) {
+            Ok(widening(alloc)?)
+        } else {
+            Err(name_fault(alloc, 10, place, name)?)
+        },
+    }
+}
+
+fn function_called(
+    alloc: Global,
+    env: &Environment,
+    place: Place,
+    name: &Text,
+) -> Result<Target, Fail>
+    ensures { Gives target_of result (function_called name.now place (env_of env.now) (named name.now (env_of env.now).functions)) }
+{
+    match env.function(name.bytes()) {
+        Some(f) => if f.order < env.here {
+            Ok(Target {
+                heading: f.heading.copy(alloc)?,
+                range: ImmRange::NoImmediate,
+                outside: env.calls_none,
+            })
+        } else {
+            Err(name_fault(alloc, 17, place, name)?)
+        },
+        None => row_called(alloc, env, place, name),
+    }
+}
+
+/// What the called name stands for. An unknown intrinsic is refused 13, an object 11, a function of the unit that doesn't stand before 17,
+/// and a name that nothing declares 10.
+pub fn called(alloc: Global, env: &Environment, place: Place, name: &Text) -> Result<Target, Fail>
+    ensures { Gives target_of result (called name.now place (env_of env.now)) }
+{
+    if is_unknown_intrinsic(env, name.bytes()) {
+        Err(name_fault(alloc, 13, place, name)?)
+    } else {
+        match env.object(name.bytes()) {
+            Some(_) => Err(name_fault(alloc, 11, place, name)?),
+            None => function_called(alloc, env, place, name),
+        }
+    }
+}
