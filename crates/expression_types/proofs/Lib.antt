@@ -1,2 +1,4 @@
+pub mod Complete
 pub mod Lists
 pub mod Shortened
+pub mod Sound

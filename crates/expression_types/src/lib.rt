@@ -2,6 +2,7 @@
 #![tactic(auto)]
 
 mod check;
+mod laws;
 mod marks;
 mod names;
 mod objects;
@@ -9,4 +10,5 @@ mod objects;
 pub use c_text::{Dialect, Fail, Refusal};
 pub use c_tree::{CType, Expr, ExprKind, Place, Text};
 pub use check::check_expression;
+pub use laws::expressions_are_typed_by_rules;
 pub use scopes::{Callee, Environment, Names, Object};
