@@ -24,4 +24,3 @@ pub checks_one_more : (env : Env) (w : Checked Trees) (out out' all rest : List 
 checks_one_more env w out out' all rest x y goes here passes grown =
     let seen : map view out' ≡ map view out ++ view y ∷ [] = ap (map view) grown ∙ map-append view out (y ∷ []) in
     rw (seen, front_one_more (map view out) (view y) (check_all (views rest) env)) (goes ∙ rw (here, passes) refl)
-

@@ -52,7 +52,7 @@ mutual
     constant : (p : Place) (t : CType) (n : Num) → Typed env (Node p t (tree.Const n)) (Node p (Int (read_number env.dialect n).ty) (tree.Const (read_number env.dialect n)))
     object : (p : Place) (t : CType) (x : List ℕ) (o : Object) → object_named x env ≡ Some o → (IsArray o.ty → ⊥) → Typed env (Node p t (tree.Name x)) (Node p o.ty (tree.Name x))
     array : (p : Place) (t : CType) (x : List ℕ) (o : Object) (e : Pointee) (n : ℕ) (c : Bool) → object_named x env ≡ Some o → o.ty ≡ Array e n c →
-      Typed env (Node p t (tree.Name x)) (Node p (Pointer e c) (tree.Cast (Pointer e c) (Node p (Array e n c) (tree.Name x)) false))
+        Typed env (Node p t (tree.Name x)) (Node p (Pointer e c) (tree.Cast (Pointer e c) (Node p (Array e n c) (tree.Name x)) false))
     -- operators, by the rules of 6.5
     unary : (p : Place) (t : CType) (o : UnOp) (a a' v : Tree) → Typed env a a' → Results p (tree.Unary o a') v → Typed env (Node p t (tree.Unary o a)) v
     binary : (p : Place) (t : CType) (o : BinOp) (a a' b b' v : Tree) → Typed env a a' → Typed env b b' → Results p (tree.Binary o a' b') v → Typed env (Node p t (tree.Binary o a b)) v
@@ -69,19 +69,19 @@ mutual
     assign : (p : Place) (t : CType) (o : Option BinOp) (a a' b b' v : Tree) → Typed env a a' → Typed env b b' → Designates env a' false → Results p (tree.Assign o a' b') v → Typed env (Node p t (tree.Assign o a b)) v
     -- the address of an object of an integer type or of an x86 vector type, which is that of an object in memory (6.5.3.2p1, p3)
     address : (p : Place) (t : CType) (a a' : Tree) (c : Bool) (e : Pointee) → Typed env a a' → Designates env a' c → IsObjectOf e (node_type a') →
-      Typed env (Node p t (tree.Address a)) (Node p (Pointer e c) (tree.Address a'))
+        Typed env (Node p t (tree.Address a)) (Node p (Pointer e c) (tree.Address a'))
     -- a written cast, to the type as the dialect reads it (6.5.4), and no pointer to void; a cast that isn't written is passed over
     cast : (p : Place) (t u : CType) (a a' v : Tree) → Typed env a a' → Results p (tree.Cast (read_type env.dialect u) a' true) v → (IsVoidPointer u → ⊥) → Typed env (Node p t (tree.Cast u a true)) v
     through : (p : Place) (t u : CType) (a a' : Tree) → Typed env a a' → Typed env (Node p t (tree.Cast u a false)) a'
     -- sizes (6.5.3.4)
     size : (p : Place) (t u : CType) (v : Tree) → Results p (tree.SizeOfType (read_type env.dialect u)) v → (IsVoidPointer u → ⊥) → Typed env (Node p t (tree.SizeOfType u)) v
     size_of_object : (p : Place) (t : CType) (x : List ℕ) (o : Object) (n : ℕ) → object_named x env ≡ Some o → size_of o.ty ≡ Some n →
-      Typed env (Node p t (tree.SizeOfName x)) (Node p (Int i.ULong) (tree.SizeOfName x))
+        Typed env (Node p t (tree.SizeOfName x)) (Node p (Int i.ULong) (tree.SizeOfName x))
     -- calls (6.5.2.2) of functions of the unit that stand before, where the profile has them, and of rows of the table
     call_of_function : (p : Place) (t : CType) (f : List ℕ) (c : Callee) (all all' args : Trees) → is_unknown_intrinsic f env ≡ false → object_named f env ≡ None → named f env.functions ≡ Some c →
-      c.order < env.here → env.calls_none ≡ false → TypedAll env all all' → Passed c.heading.params all' args → Immediate NoImmediate (immediate_of c.heading.params args) → Typed env (Node p t (tree.Call f all)) (Node p c.heading.result (tree.Call f args))
+        c.order < env.here → env.calls_none ≡ false → TypedAll env all all' → Passed c.heading.params all' args → Immediate NoImmediate (immediate_of c.heading.params args) → Typed env (Node p t (tree.Call f all)) (Node p c.heading.result (tree.Call f args))
     call_of_row : (p : Place) (t : CType) (f : List ℕ) (r : Row) (all all' args : Trees) → is_unknown_intrinsic f env ≡ false → object_named f env ≡ None → named f env.functions ≡ None → row_named env.dialect f ≡ Some r →
-      TypedAll env all all' → Passed r.heading.params all' args → Immediate r.range (immediate_of r.heading.params args) → Typed env (Node p t (tree.Call f all)) (Node p r.heading.result (tree.Call f args))
+        TypedAll env all all' → Passed r.heading.params all' args → Immediate r.range (immediate_of r.heading.params args) → Typed env (Node p t (tree.Call f all)) (Node p r.heading.result (tree.Call f args))
 
   pub data TypedAll (env : Env) : Trees → Trees → Type 0 where
     none : TypedAll env NoTrees NoTrees

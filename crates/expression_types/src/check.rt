@@ -18,10 +18,9 @@ use const_imm::eval_const;
 use scalar_core::convert;
 use scopes::Environment;
 use std::alloc::{AllocError, Global};
-use type_rules::operations;
 use type_rules::{
-    ImmRange, immediate_of, is_in_range, is_void_pointer, name_expr, passed, read_integer,
-    read_type,
+    ImmRange, immediate_of, is_in_range, is_void_pointer, name_expr, operations, passed,
+    read_integer, read_type,
 };
 
 fn read_number(dialect: Dialect, n: Num) -> Num
@@ -233,12 +232,7 @@ pub fn check_expression(alloc: Global, env: &Environment, e: &Expr) -> Result<Ex
 }
 
 #[cycle(check)]
-fn check_kind(
-    alloc: Global,
-    env: &Environment,
-    place: Place,
-    kind: &ExprKind,
-) -> Result<Expr, Fail>
+fn check_kind(alloc: Global, env: &Environment, place: Place, kind: &ExprKind) -> Result<Expr, Fail>
     ensures { Gives view result (check_kind (view_kind kind.now) place (env_of env.now)) }
 {
     match kind {

@@ -66,7 +66,12 @@ fn pointee_of(t: CType) -> Option<Pointee>
 }
 
 /// `&a` (C11 6.5.3.2), where `a` designates an object that may be in memory.
-pub fn address(alloc: Global, env: &Environment, place: Place, a: Expr) -> Result<Option<Expr>, AllocError>
+pub fn address(
+    alloc: Global,
+    env: &Environment,
+    place: Place,
+    a: Expr,
+) -> Result<Option<Expr>, AllocError>
     ensures { IfOk result (λ r. option_map view r ≡ address_node place (view a) (env_of env.now)) }
 {
     match (designated(env, &a), pointee_of(a.ty)) {

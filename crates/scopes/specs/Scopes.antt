@@ -53,12 +53,26 @@ object_named x env = or_else (named x env.innermost) (visible x env.outer)
 abbrev pub is_declared_here : List ℕ → Env → Bool
 is_declared_here x env = is_some (named x env.innermost)
 
--- one more object in the innermost scope, a scope that opens in it, and its end
+-- one more object in the innermost scope, a scope that opens in it, and what is left where the innermost scope ends
 abbrev pub with_object : List ℕ → Object → Env → Env
 with_object x o env = record env { innermost = env.innermost ++ (x, o) ∷ [] }
 
 abbrev pub opened : Env → Env
 opened env = record env { outer = env.outer ++ env.innermost ∷ []; innermost = [] }
+
+-- the last of some scopes, and the others
+abbrev pub last_scope : List Scope → Scope
+last_scope [] = []
+last_scope (s ∷ []) = s
+last_scope (s ∷ t ∷ inner) = last_scope (t ∷ inner)
+
+abbrev pub but_last : List Scope → List Scope
+but_last [] = []
+but_last (s ∷ []) = []
+but_last (s ∷ t ∷ inner) = s ∷ but_last (t ∷ inner)
+
+abbrev pub closed : Env → Env
+closed env = record env { outer = but_last env.outer; innermost = last_scope env.outer }
 
 -- what contracts see of the code's names, functions and environment
 abbrev pub entries_of : {V : Type 0} → Names V → List (List ℕ × V)

@@ -1,7 +1,7 @@
 //! What a place in a unit sees.
 
 ghost use Rattle.std.specs.Prelude.{◌≡◌, IfSome, IfNone, OnOk, Some, None, [], false, map};
-ghost use Rattle.scopes.specs.Scopes.{Env, named, callee, visible, entries_of, object_named, is_declared_here, with_object, opened, env_of};
+ghost use Rattle.scopes.specs.Scopes.{Env, named, callee, visible, entries_of, object_named, is_declared_here, with_object, opened, closed, env_of};
 
 use crate::names::Names;
 use c_text::Dialect;
@@ -97,5 +97,19 @@ impl Environment {
         let scope = std::mem::replace(&mut self.innermost, Names::new(alloc));
         self.outer.push(scope)?;
         Ok(())
+    }
+
+    /// Ends the innermost scope; the one around it is the innermost then.
+    pub fn close(&mut self, alloc: Global)
+        ensures { env_of self.new ≡ closed (env_of self.old) }
+    {
+        match self.outer.pop() {
+            None => {
+                self.innermost = Names::new(alloc);
+            }
+            Some(scope) => {
+                self.innermost = scope;
+            }
+        }
     }
 }

@@ -4,10 +4,14 @@
 #![tactic(auto)]
 
 mod environment;
+mod laws;
 mod names;
+#[cfg(test)]
+mod tests;
 
 pub use c_text::Dialect;
 pub use c_tree::{CType, Text};
 pub use environment::{Callee, Environment, Object};
+pub use laws::scopes_end;
 pub use names::Names;
 pub use type_rules::{Heading, Parameter};

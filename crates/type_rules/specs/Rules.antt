@@ -108,7 +108,7 @@ pub data Results (p : Place) : Kind → Tree → Type 0 where
   pointer_step : (a : Tree) (e : Pointee) (c up before : Bool) → HasPointer a e c → IsObject e → Results p (Step a up before) (Node p (type.Pointer e c) (Step a up before))
   -- operators between integers (6.5.5 to 6.5.12)
   integers : (o : BinOp) (a b : Tree) (s t : IntType) → HasInteger a s → HasInteger b t →
-    Results p (Binary o a b) (Node p (type.Int (binary_type o s t)) (Binary o (converted (type.Int (left_type o s t)) a) (converted (type.Int (right_type o s t)) b)))
+      Results p (Binary o a b) (Node p (type.Int (binary_type o s t)) (Binary o (converted (type.Int (left_type o s t)) a) (converted (type.Int (right_type o s t)) b)))
   -- a pointer is moved by an integer (6.5.6p2, p3, p8)
   moved : (o : BinOp) (a b : Tree) (e : Pointee) (c : Bool) (t : IntType) → IsAdditive o → HasPointer a e c → IsObject e → HasInteger b t → Results p (Binary o a b) (Node p (type.Pointer e c) (Binary o a b))
   moved_by_left : (a b : Tree) (e : Pointee) (c : Bool) (t : IntType) → HasInteger a t → HasPointer b e c → IsObject e → Results p (Binary Add a b) (Node p (type.Pointer e c) (Binary Add a b))
@@ -124,13 +124,13 @@ pub data Results (p : Place) : Kind → Tree → Type 0 where
   disjunction : (a b : Tree) → IsScalar (node_type a) → IsScalar (node_type b) → Results p (OrElse a b) (Node p (type.Int i.Int) (OrElse a b))
   -- the choice (6.5.15p2 to p6)
   choice_of_integers : (c a b : Tree) (s t : IntType) → IsScalar (node_type c) → HasInteger a s → HasInteger b t →
-    Results p (Choice c a b) (Node p (type.Int (common_of s t)) (Choice c (converted (type.Int (common_of s t)) a) (converted (type.Int (common_of s t)) b)))
+      Results p (Choice c a b) (Node p (type.Int (common_of s t)) (Choice c (converted (type.Int (common_of s t)) a) (converted (type.Int (common_of s t)) b)))
   choice_of_pointers : (c a b : Tree) (e : Pointee) (k l : Bool) → IsScalar (node_type c) → HasPointer a e k → HasPointer b e l →
-    Results p (Choice c a b) (Node p (type.Pointer e (k || l)) (Choice c (converted (type.Pointer e (k || l)) a) (converted (type.Pointer e (k || l)) b)))
+      Results p (Choice c a b) (Node p (type.Pointer e (k || l)) (Choice c (converted (type.Pointer e (k || l)) a) (converted (type.Pointer e (k || l)) b)))
   choice_or_null : (c a b : Tree) (e : Pointee) (k : Bool) (t : IntType) → IsScalar (node_type c) → HasPointer a e k → HasInteger b t → is_zero b ≡ true →
-    Results p (Choice c a b) (Node p (type.Pointer e k) (Choice c a (converted (type.Pointer e k) b)))
+      Results p (Choice c a b) (Node p (type.Pointer e k) (Choice c a (converted (type.Pointer e k) b)))
   null_or_choice : (c a b : Tree) (e : Pointee) (k : Bool) (t : IntType) → IsScalar (node_type c) → HasInteger a t → is_zero a ≡ true → HasPointer b e k →
-    Results p (Choice c a b) (Node p (type.Pointer e k) (Choice c (converted (type.Pointer e k) a) b))
+      Results p (Choice c a b) (Node p (type.Pointer e k) (Choice c (converted (type.Pointer e k) a) b))
   choice_of_nothing : (c a b : Tree) → IsScalar (node_type c) → node_type a ≡ type.Void → node_type b ≡ type.Void → Results p (Choice c a b) (Node p type.Void (Choice c a b))
   choice_of_vectors : (c a b : Tree) (t : CType) → IsScalar (node_type c) → IsVector t → node_type a ≡ t → node_type b ≡ t → Results p (Choice c a b) (Node p t (Choice c a b))
   -- assignments (6.5.16.1, 6.5.16.2)

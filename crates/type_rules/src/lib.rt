@@ -6,10 +6,14 @@ mod laws;
 mod operands;
 pub mod operations;
 mod passing;
+#[cfg(test)]
+mod tests;
 mod types;
 
 pub use c_text::Dialect;
-pub use c_tree::{BinOp, CType, Expr, ExprKind, IntType, NeonLane, Num, Place, Pointee, Text, UnOp};
+pub use c_tree::{
+    BinOp, CType, Expr, ExprKind, IntType, NeonLane, Num, Place, Pointee, Text, UnOp,
+};
 pub use conversions::{assigned_expr, converted_expr, is_zero_expr, name_expr};
 pub use lane_core::table::{ImmRange, ParamKind, Sig};
 pub use laws::types_are_by_rules;

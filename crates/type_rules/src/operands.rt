@@ -214,16 +214,8 @@ pub fn arms_type(s: CType, x: bool, t: CType, y: bool) -> Option<CType>
 {
     match (s, t) {
         (CType::Int(s), CType::Int(t)) => Some(CType::Int(common(s, t))),
-        (CType::Pointer(e, c), CType::Int(_)) => if y {
-            Some(CType::Pointer(e, c))
-        } else {
-            None
-        },
-        (CType::Int(_), CType::Pointer(f, d)) => if x {
-            Some(CType::Pointer(f, d))
-        } else {
-            None
-        },
+        (CType::Pointer(e, c), CType::Int(_)) => if y { Some(CType::Pointer(e, c)) } else { None },
+        (CType::Int(_), CType::Pointer(f, d)) => if x { Some(CType::Pointer(f, d)) } else { None },
         (CType::Pointer(e, c), CType::Pointer(f, d)) => pointer_arms(e, c, f, d),
         (CType::Void, CType::Void) => Some(CType::Void),
         _ => if is_vector(s) && same_type(s, t) {

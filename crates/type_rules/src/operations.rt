@@ -45,7 +45,12 @@ pub fn unary(alloc: Global, op: UnOp, place: Place, a: Expr) -> Result<Option<Ex
     }
 }
 
-fn signed_integer(alloc: Global, op: UnOp, place: Place, a: Expr) -> Result<Option<Expr>, AllocError>
+fn signed_integer(
+    alloc: Global,
+    op: UnOp,
+    place: Place,
+    a: Expr,
+) -> Result<Option<Expr>, AllocError>
     ensures { IfOk result (λ r. option_map view r ≡ signed_integer op place (view a) a.ty) }
 {
     match a.ty {

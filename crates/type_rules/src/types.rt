@@ -136,7 +136,8 @@ fn is_character(e: Pointee) -> bool
     ensures { result ≡ is_character e }
 {
     match e {
-        Pointee::Int(IntType::Char) | Pointee::Int(IntType::SChar) | Pointee::Int(IntType::UChar) => true,
+        Pointee::Int(IntType::Char) | Pointee::Int(IntType::SChar) | Pointee::Int(IntType::UChar) =>
+            true,
         _ => false,
     }
 }

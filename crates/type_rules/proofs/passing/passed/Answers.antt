@@ -15,7 +15,7 @@ returns-in_default c =
     let none = no_argument (drop i c.args.params.now) left in
     let nothing : into_iter_items c.loop-p.left ≡ [] = search rules in
     sym (ap (λ l. passed c.args.params.now (views l)) (sym c.into_iter-left.ensures.rest) ∙ c.loop-p.invariant ∙
-      ap (λ l. behind (map view c.loop-p.out.items) (passed (drop i c.args.params.now) (views l))) nothing ∙ ap (behind (map view c.loop-p.out.items)) none)
+    ap (λ l. behind (map view c.loop-p.out.items) (passed (drop i c.args.params.now) (views l))) nothing ∙ ap (behind (map view c.loop-p.out.items)) none)
 
 pub loop-p-preserved : goal.loop-p-preserved
 loop-p-preserved c =
@@ -26,4 +26,4 @@ loop-p-preserved c =
     let here : into_iter_items c.loop-p.left ≡ c.in-Some.e ∷ into_iter_items c.first_of.new.left = search rules in
     let fit : Some (view c.in-Some-2.e) ≡ given t (view c.in-Some.e) = search rules in
     passes_one_more (passed ps (views (into_iter_items c.into_iter-left.result))) c.loop-p.out.items c.push.new.self.items (into_iter_items c.loop-p.left) (into_iter_items c.first_of.new.left) (drop i ps) (drop (i + 1) ps) t c.in-Some.e c.in-Some-2.e
-      c.loop-p.invariant types here fit c.in_ok-push-in-Some-2.ensures.items
+    c.loop-p.invariant types here fit c.in_ok-push-in-Some-2.ensures.items

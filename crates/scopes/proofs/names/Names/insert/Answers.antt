@@ -10,5 +10,5 @@ returns g c =
     let k = c.in_ok-key.key in
     let es = c.args.self.now.map.entries in
     let absent : lookup (λ q. pointwise nat_eq k.items q.items) es ≡ None =
-      ap (λ x. lookup (λ q. pointwise nat_eq x q.items) es) c.in_ok-key.ensures.items ∙ lookup-named c.args.name.now es ∙ c.requires in
+    ap (λ x. lookup (λ q. pointwise nat_eq x q.items) es) c.in_ok-key.ensures.items ∙ lookup-named c.args.name.now es ∙ c.requires in
     ap seen (c.in_ok-insert.ensures.entries ∙ insert_entry-new _ c.args.self.now.map k c.args.value absent) ∙ entries-append es k c.args.value c.args.name.now c.in_ok-key.ensures.items
