@@ -3,9 +3,11 @@
 use Rattle.std.specs.Prelude.{◌≡◌, ℕ, Bool, true, false, nat_lt, if◌then◌else◌, List, Option, Some, None, Result, Ok, Err, codes}
 use Rattle.c_text.specs.declared.tokens.Place.{Place}
 use Rattle.c_text.specs.declared.tokens.Dialect.{Dialect}
+use Rattle.c_text.specs.declared.tokens.Dialect.TheVariants.{X86, Neon}
 use Rattle.c_text.specs.declared.refusals.Refusal.{Refusal}
 use Rattle.c_text.specs.declared.refusals.Fail.{Fail}
 use Rattle.c_text.specs.declared.refusals.Fail.TheVariants.{Refused, Memory}
+use Rattle.lane_core.specs.declared.number.IntType.{IntType}
 use Rattle.lane_core.specs.declared.number.Num.{Num}
 use Rattle.lane_core.specs.declared.table.ImmRange.{ImmRange}
 use Rattle.lane_core.specs.declared.table.ImmRange.TheVariants.{NoImmediate}
@@ -13,7 +15,7 @@ use Rattle.scalar_core.specs.Numbers as numbers
 use Rattle.const_imm.specs.Constant.{value_of}
 use Rattle.c_tree.specs.Tree as tree
 use Rattle.c_tree.specs.Tree.{Tree, Kind, Trees, Node, NoTrees, More}
-use Rattle.type_rules.specs.Types.{node_place, read_integer, read_type, is_void_pointer}
+use Rattle.type_rules.specs.Types.{node_place, read_type, is_void_pointer}
 use Rattle.type_rules.specs.Operations.{constant_node, name_node, unary_node, step_node, binary_node, and_node, or_node, choice_node, assign_node, comma_node, cast_node, index_node, deref_node, half_node, pair_node, size_node, size_of_name_node}
 use Rattle.type_rules.specs.Passing.{passed, immediate_of, is_in_range}
 use Rattle.scopes.specs.declared.environment.Object.{Object}
@@ -42,9 +44,14 @@ typed p d None = refuse 11 p d
 abbrev pub admitted : Bool → Place → List ℕ → Tree → Checked Tree
 admitted outside p d v = if outside then refuse 18 p d else Ok v
 
--- a constant as the dialect reads it
+-- a constant as the dialect reads it: in Neon's one of type `char` is an `unsigned char`
+abbrev pub is_char : IntType → Bool
+is_char IntType.Char = true
+is_char t = false
+
 abbrev pub read_number : Dialect → Num → Num
-read_number dialect n = numbers.converted (read_integer dialect n.ty) n
+read_number X86 n = n
+read_number Neon n = if is_char n.ty then numbers.converted IntType.UChar n else n
 
 -- the object that a name stands for; a function's name stands in calls alone (18), and any other is unknown (10)
 abbrev pub used_as : List ℕ → Place → Env → Option Object → Checked Object

@@ -7,26 +7,41 @@ ghost use Rattle.scopes.specs.Scopes.{env_of};
 ghost use Rattle.type_rules.specs.Passing.{immediate_of};
 ghost use Rattle.expression_types.specs.Marks.{mark_of};
 ghost use Rattle.expression_types.specs.Names.{target_of};
-ghost use Rattle.expression_types.specs.Check.{Gives, typed, admitted, read_number, in_range, immediate_fits, call, one, two, check, check_kind, check_all};
+ghost use Rattle.expression_types.specs.Check.{Gives, typed, admitted, is_char, read_number, in_range, immediate_fits, call, one, two, check, check_kind, check_all};
 
 use crate::marks::{fault, name_fault};
 use crate::names::{Target, called, used};
 use crate::objects::{address, is_writable};
 use c_text::{Dialect, Fail, Place, Text};
-use c_tree::{CType, Expr, ExprKind, Num};
+use c_tree::{Expr, ExprKind, IntType, Num};
 use const_imm::eval_const;
 use scalar_core::convert;
 use scopes::Environment;
 use std::alloc::{AllocError, Global};
 use type_rules::{
-    ImmRange, immediate_of, is_in_range, is_void_pointer, name_expr, operations, passed,
-    read_integer, read_type,
+    ImmRange, immediate_of, is_in_range, is_void_pointer, name_expr, operations, passed, read_type,
 };
+
+fn is_char(t: IntType) -> bool
+    ensures { result ≡ is_char t }
+{
+    match t {
+        IntType::Char => true,
+        _ => false,
+    }
+}
 
 fn read_number(dialect: Dialect, n: Num) -> Num
     ensures { result ≡ read_number dialect n }
 {
-    convert(n, read_integer(dialect, n.ty))
+    match dialect {
+        Dialect::X86 => n,
+        Dialect::Neon => if is_char(n.ty) {
+            convert(n, IntType::UChar)
+        } else {
+            n
+        },
+    }
 }
 
 // The node, if its types fit, or else 11.
