@@ -8,7 +8,7 @@ use Rattle.const_imm.specs.Constant.{value_of}
 use Rattle.const_imm.specs.Sizes.{size_of}
 use Rattle.c_tree.specs.declared.types.CType.{CType}
 use Rattle.c_tree.specs.declared.types.CType.TheVariants.{Void, Array}
-use Rattle.c_tree.specs.Tree.{Tree, Trees, NoTrees, More, Object}
+use Rattle.c_tree.specs.Tree.{Tree, Kind, Trees, Node, Cast, NoTrees, More, Object}
 use Rattle.type_rules.specs.Types.{node_type, node_place, read_type, is_void_pointer, is_object, is_integer, converted, assigned}
 use Rattle.scopes.specs.declared.environment.Object.{Object as Known}
 use Rattle.c_tree.specs.Same.{unnumbered}
@@ -39,10 +39,23 @@ new_name x p t env =
     else if is_void_pointer t then refuse 18 p (short x)
     else Ok true
 
+-- the node that a refusal shows of an expression which has its types: a cast that isn't written is no node of the text
+abbrev mutual
+  pub root : Tree → Tree
+  root (Node p t k) = root_kind p t k
+
+  pub root_kind : Place → CType → Kind → Tree
+  root_kind p t (Cast u a false) = root a
+  root_kind p t k = Node p t k
+
+-- an expression that doesn't fit where it stands
+abbrev pub unfit : {A : Type 0} → Tree → Checked A
+unfit e = refuse 11 (node_place (root e)) (mark (root e))
+
 -- an array's length is a constant of at least 1
 abbrev pub count_of : Tree → Option Num → Checked ℕ
-count_of e (Some n) = if int_le (pos 1) n.value then Ok (unsigned_abs n.value) else refuse 11 (node_place e) (mark e)
-count_of e None = refuse 11 (node_place e) (mark e)
+count_of e (Some n) = if int_le (pos 1) n.value then Ok (unsigned_abs n.value) else unfit e
+count_of e None = unfit e
 
 -- an alignment is a power of two up to 64
 abbrev pub is_low_alignment : ℤ → Bool
@@ -55,8 +68,8 @@ abbrev pub is_alignment : ℤ → Bool
 is_alignment z = is_low_alignment z || is_high_alignment z
 
 abbrev pub alignment_of : Tree → Option Num → Checked Tree
-alignment_of e (Some n) = if is_alignment n.value then Ok e else refuse 11 (node_place e) (mark e)
-alignment_of e None = refuse 11 (node_place e) (mark e)
+alignment_of e (Some n) = if is_alignment n.value then Ok e else unfit e
+alignment_of e None = unfit e
 
 abbrev pub alignment : Tree → Env → Checked Tree
 alignment e env = check e env >>= λ v. alignment_of v (value_of v)
@@ -82,7 +95,7 @@ abbrev pub is_member : CType → Bool → Tree → Bool
 is_member t room a = room && is_integer t && is_integer (node_type a) && is_some (value_of a)
 
 abbrev pub member : CType → Bool → Tree → Checked Tree
-member t room a = if is_member t room a then Ok (converted t a) else refuse 11 (node_place a) (mark a)
+member t room a = if is_member t room a then Ok (converted t a) else unfit a
 
 -- the members from place i on, of an array of n elements, where that is known
 abbrev pub members : CType → Option ℕ → ℕ → Trees → Env → Checked Trees

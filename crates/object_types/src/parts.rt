@@ -1,19 +1,59 @@
 //! The parts of declared objects: names, lengths, alignments and members of initialisers.
 
-ghost use Rattle.std.specs.Prelude.{◌≡◌, ◌+◌, true, false, option_map, OnOk};
+ghost use Rattle.std.specs.Prelude.{◌≡◌, ◌+◌, true, false, option_map, OnOk, IfOk};
 ghost use Rattle.const_imm.specs.Constant.{value_of};
 ghost use Rattle.const_imm.specs.Sizes.{size_of};
 ghost use Rattle.c_tree.specs.View.{view, views};
 ghost use Rattle.scopes.specs.Scopes.{env_of, is_declared_here};
 ghost use Rattle.expression_types.specs.Check.{Gives};
-ghost use Rattle.object_types.specs.Objects.{is_object_type, is_array, new_name, count_of, is_low_alignment, is_high_alignment, is_alignment, alignment_of, alignment, is_before, is_small, small, is_room, is_member, member, members};
+ghost use Rattle.c_text.specs.declared.refusals.Fail.TheVariants.{Refused};
+ghost use Rattle.type_rules.specs.Types.{node_place};
+ghost use Rattle.expression_types.specs.Marks.{mark};
+ghost use Rattle.object_types.specs.Objects.{root, is_object_type, is_array, new_name, count_of, is_low_alignment, is_high_alignment, is_alignment, alignment_of, alignment, is_before, is_small, small, is_room, is_member, member, members};
 
 use crate::reserved::is_reserved;
-use c_tree::{CType, Expr, Place, Text};
+use c_tree::{CType, Expr, ExprKind, Place, Text};
 use const_imm::{eval_const, size_of};
 use expression_types::{Environment, Fail, check_expression, fault, name_fault};
-use std::alloc::Global;
+use std::alloc::{AllocError, Global};
 use type_rules::{converted_expr, is_integer, is_object, is_void_pointer};
+
+// The node of the text that the expression is.
+fn root(e: &Expr) -> &Expr
+    ensures { view result.now ≡ root (view e.now) }
+{
+    match &*e.kind {
+        ExprKind::Cast(_, a, false) => root(a),
+        ExprKind::Cast(_, _, true)
+        | ExprKind::Const(_)
+        | ExprKind::Name(_)
+        | ExprKind::Unary(_, _)
+        | ExprKind::Step(_, _, _)
+        | ExprKind::Binary(_, _, _)
+        | ExprKind::AndThen(_, _)
+        | ExprKind::OrElse(_, _)
+        | ExprKind::Choice(_, _, _)
+        | ExprKind::Assign(_, _, _)
+        | ExprKind::Comma(_)
+        | ExprKind::Index(_, _)
+        | ExprKind::Deref(_)
+        | ExprKind::Address(_)
+        | ExprKind::Call(_, _)
+        | ExprKind::Half(_, _)
+        | ExprKind::PairOf(_, _)
+        | ExprKind::SizeOfType(_)
+        | ExprKind::SizeOfName(_)
+        | ExprKind::Str(_) => e,
+    }
+}
+
+// The refusal 11 of an expression that doesn't fit where it stands.
+fn unfit(alloc: Global, e: &Expr) -> Result<Fail, AllocError>
+    ensures { IfOk result (λ f. f ≡ Refused (record { number = 11; place = node_place (root (view e.now)); detail = mark (root (view e.now)) })) }
+{
+    let node = root(e);
+    fault(alloc, 11, node.place, &node.kind)
+}
 
 fn is_object_type(t: CType) -> bool
     ensures { result ≡ is_object_type t }
@@ -68,9 +108,9 @@ pub fn count(alloc: Global, e: &Expr) -> Result<u64, Fail>
         Ok(n) => if n.value >= 1 {
             Ok(n.value.unsigned_abs() as u64)
         } else {
-            Err(fault(alloc, 11, e.place, &e.kind)?)
+            Err(unfit(alloc, e)?)
         },
-        Err(_) => Err(fault(alloc, 11, e.place, &e.kind)?),
+        Err(_) => Err(unfit(alloc, e)?),
     }
 }
 
@@ -99,9 +139,9 @@ fn alignment_of(alloc: Global, e: Expr) -> Result<Expr, Fail>
         Ok(n) => if is_alignment(n.value) {
             Ok(e)
         } else {
-            Err(fault(alloc, 11, e.place, &e.kind)?)
+            Err(unfit(alloc, &e)?)
         },
-        Err(_) => Err(fault(alloc, 11, e.place, &e.kind)?),
+        Err(_) => Err(unfit(alloc, &e)?),
     }
 }
 
@@ -161,7 +201,7 @@ fn member(alloc: Global, t: CType, room: bool, e: Expr) -> Result<Expr, Fail>
     if is_member(t, room, &e) {
         Ok(converted_expr(alloc, t, e)?)
     } else {
-        Err(fault(alloc, 11, e.place, &e.kind)?)
+        Err(unfit(alloc, &e)?)
     }
 }
 
