@@ -4,6 +4,8 @@
 mod declarations;
 mod parts;
 mod statements;
+#[cfg(test)]
+mod tests;
 
 pub use c_tree::{CType, Declared, Expr, Place, Stmt};
 pub use declarations::check_objects;

@@ -6,15 +6,15 @@ use std::alloc::Global;
 use std::test::Fail as Wrong;
 
 // Statements, and `ok` or a refusal: number, column, detail. Each word is a statement at the column that counts the words: a
-// declaration of an `int` (`int:x`), an expression (`x`), a `while` over the next one (`while:x`), a `break` and a `return`.
+// declaration of an `int` (`int:x`), an expression (`x`), a `while` with its body (`while:x>break`), a `break` and a `return`.
 // The function gives an `int`; v is an `__m128i`.
 const ROWS: &str = "\
 int:x x return:x -> ok
 x int:x -> 10 1 x
 int:x int:x -> 11 2 x
-int:x while:x break -> ok
+int:x while:x>break -> ok
 int:x break -> 11 2 break
-while:v x -> 11 1 v
+while:v>x -> 11 1 v
 return:v -> 11 1 return
 return -> 11 1 return";
 
@@ -39,40 +39,41 @@ fn object(alloc: Global, text: &str, col: u32) -> Result<Declared, Wrong> {
     })
 }
 
-fn statement(alloc: Global, word: &str, col: u32) -> Result<Stmt, Wrong> {
+fn simple(alloc: Global, word: &str, col: u32) -> Result<Stmt, Wrong> {
     let place = Place { line: 1, col };
-    match word.split_once(":") {
-        Some(("int", x)) => {
-            let mut all = Vec::new(alloc);
-            all.push(object(alloc, x, col)?)?;
-            Ok(Stmt::Declare(all))
-        }
-        Some((_, x)) => Ok(Stmt::Return(place, Some(name(alloc, x, col)?))),
-        None => if word == "break" {
-            Ok(Stmt::Break(place))
-        } else if word == "return" {
-            Ok(Stmt::Return(place, None))
-        } else {
-            Ok(Stmt::Run(name(alloc, word, col)?))
-        },
+    if word == "break" {
+        Ok(Stmt::Break(place))
+    } else if word == "return" {
+        Ok(Stmt::Return(place, None))
+    } else {
+        Ok(Stmt::Run(name(alloc, word, col)?))
+    }
+}
+
+fn statement(alloc: Global, word: &str, col: u32) -> Result<Stmt, Wrong> {
+    if let Some(x) = word.strip_prefix("int:") {
+        let mut all = Vec::new(alloc);
+        all.push(object(alloc, x, col)?)?;
+        Ok(Stmt::Declare(all))
+    } else if let Some(x) = word.strip_prefix("return:") {
+        let place = Place { line: 1, col };
+        Ok(Stmt::Return(place, Some(name(alloc, x, col)?)))
+    } else if let Some(parts) = word.strip_prefix("while:") {
+        let (x, inner) = parts.split_once(">").ok_or("body")?;
+        let c = name(alloc, x, col)?;
+        let inner = simple(alloc, inner, col)?;
+        Ok(Stmt::While(c, Box::new(alloc, inner)?))
+    } else {
+        simple(alloc, word, col)
     }
 }
 
 fn body(alloc: Global, row: &str) -> Result<Vec<Stmt>, Wrong> {
     let mut all = Vec::new(alloc);
-    let mut words = row.split(' ');
     let mut col = 0u32;
-    while let Some(word) = words.next() {
+    for word in row.split(' ') {
         col = col.wrapping_add(1);
-        match word.strip_prefix("while:") {
-            Some(x) => {
-                let c = name(alloc, x, col)?;
-                let next = words.next().ok_or("body")?;
-                let inner = statement(alloc, next, col.wrapping_add(1))?;
-                all.push(Stmt::While(c, Box::new(alloc, inner)?))?;
-            }
-            None => all.push(statement(alloc, word, col)?)?,
-        }
+        all.push(statement(alloc, word, col)?)?;
     }
     Ok(all)
 }
