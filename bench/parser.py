@@ -40,9 +40,15 @@ fn printed(alloc: Global, tokens: &[Token]) -> usize {
 '''
 PROGRAMS = {
     "cut": HEAD % ("tokens", "", "lex", "tokens.len()"),
-    "parse_and_print": HEAD % ("bytes of printed text", "use c_parse::parse;\nuse c_print::print;\n", "{Dialect, Token, lex}", "printed(rt.alloc(), tokens.as_slice())").replace(
-        "use std::io::{self, Read};", "use std::alloc::Global;\nuse std::io::{self, Read};"
-    )
+    "parse_and_print": (
+        HEAD
+        % (
+            "bytes of text, printed again,",
+            "use c_parse::parse;\nuse c_print::print;\n",
+            "{Dialect, Token, lex}",
+            "printed(rt.alloc(), tokens.as_slice())",
+        )
+    ).replace("use std::io::{self, Read};", "use std::alloc::Global;\nuse std::io::{self, Read};")
     + TAIL,
 }
 CRATES = ["c_text", "lane_core", "c_preproc", "c_tree", "c_parse", "c_print"]
@@ -56,7 +62,7 @@ FUNCTION = b"""static inline int f%d(const uint8_t *p, size_t n) {
 """
 TEXTS = {
     "functions": lambda n: b"".join(FUNCTION % i for i in range(n // len(FUNCTION))),
-    "one sum": lambda n: b"int f(int x) { return x" + b" + x" * (n // 4) + b"; }\n",
+    "one call": lambda n: b"int f(int x) { return g(x" + b", x" * (n // 3) + b"); }\n",
     "one block": lambda n: b"int f(int x) {" + b"x = x * 3 - (x >> 1);" * (n // 21) + b"return x; }\n",
     "one table": lambda n: b"static const int t[] = {" + b"1, " * (n // 3) + b"};\n",
 }
