@@ -8,6 +8,7 @@ use Rattle.lane_core.specs.declared.vector.Pointee.{Pointee}
 use Rattle.lane_core.specs.declared.vector.NeonLane.TheVariants.{U8}
 use Rattle.lane_core.specs.declared.table.Access.{Access}
 use Rattle.lane_core.specs.declared.table.Arg.{Arg}
+use Rattle.lane_core.specs.declared.table.ImmRange.TheVariants.{NoImmediate}
 use Rattle.lane_core.specs.declared.table.Sig.{Sig}
 use Rattle.lane_core.specs.declared.table.ParamKind.TheVariants as kind
 use Rattle.lane_core.specs.Table.{signature}
@@ -219,7 +220,7 @@ last_register (Arg.Nothing ∷ a ∷ []) = a
 last_register _ = Arg.Nothing
 
 abbrev small_table : RowTable Bool
-small_table = rows_of (λ name. Some (bytes_eq name (codes "write"))) row_signature (λ write. 2) (λ write args imm k. two_bytes write k) (λ write args imm. last_register args)
+small_table = rows_of (λ name. Some (bytes_eq name (codes "write"))) row_signature (λ write. NoImmediate) (λ write. 2) (λ write args imm k. two_bytes write k) (λ write args imm. last_register args)
 
 abbrev two : MemoryBlock
 two = record { bytes = Some 5 ∷ Some 6 ∷ []; align = 1; writable = true; alive = true }
@@ -237,6 +238,13 @@ row_writes = refl
 
 row_past_the_end : call_of_row small_table (codes "read") (Value.At (Pointer.At 0 1) ∷ []) (begin (two ∷ [])) ≡ state.Undefined
 row_past_the_end = refl
+
+-- an integer isn't a pointer, and a second value has no parameter
+row_of_an_integer : call_of_row small_table (codes "read") (an_int (pos 0) ∷ []) (begin (two ∷ [])) ≡ state.Undefined
+row_of_an_integer = refl
+
+row_of_two_values : call_of_row small_table (codes "read") (Value.At (Pointer.At 0 0) ∷ an_int (pos 0) ∷ []) (begin (two ∷ [])) ≡ state.Undefined
+row_of_two_values = refl
 
 -- int f(const _Bool *p) { return *p; } on the byte 2
 bool_of_two : run (function (object (codes "p") (CType.Pointer (Pointee.Int int.Boolean) true) None ∷ [])

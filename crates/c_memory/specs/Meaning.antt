@@ -22,7 +22,7 @@ use Rattle.c_memory.specs.Matching.{half}
 use Rattle.c_memory.specs.MeaningState.{Location, Apart, InBlock, Binding, State, Out, Done, Turns, Undefined, Does, ◌>>=◌, ◌>>◌, pure, undefined, defined, from_memory, object_of, then_do, set_apart, spend, scoped}
 use Rattle.c_memory.specs.MeaningValues.{holds, as_int, operate, operate_before, converted_value, next}
 use Rattle.c_memory.specs.MeaningObjects.{encoded, array_bytes, unset_bytes, block_of, is_const, Target, Named, HalfNamed, There, half_named, value_named, read_target, set_target, target_of}
-use Rattle.c_memory.specs.MeaningAddressed.{takes_declared, takes_optional, takes_statement, takes_statements}
+use Rattle.address_taken.specs.Addressed.{takes_declared, takes_optional, takes_statement, takes_statements}
 
 -- ---- expressions
 

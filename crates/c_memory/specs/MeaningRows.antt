@@ -1,9 +1,11 @@
 -- What a call of a row of a table does: it reads its accesses, applies its formula and writes its accesses.
-use Rattle.std.specs.Prelude.{ℕ, zero, suc, ◌+◌, true, false, not, List, [], ◌∷◌, ◌++◌, filter, length, take, drop, replicate, Option, Some, None, option_map, if◌then◌else◌, nat_eq, ℤ, pos, unsigned_abs}
+use Rattle.std.specs.Prelude.{ℕ, zero, suc, ◌+◌, ◌==◌, Bool, true, false, not, ◌&&◌, ◌||◌, List, [], ◌∷◌, ◌++◌, filter, length, take, drop, replicate, Option, Some, None, option_map, if◌then◌else◌, nat_le, ℤ, pos, unsigned_abs}
 use Rattle.std.specs.Option.{option_and_then}
 use Rattle.lane_core.specs.declared.number.IntType.TheVariants as int
 use Rattle.lane_core.specs.declared.table.Access.{Access}
 use Rattle.lane_core.specs.declared.table.Arg.{Arg}
+use Rattle.lane_core.specs.declared.table.ImmRange.{ImmRange}
+use Rattle.lane_core.specs.declared.table.ImmRange.TheVariants.{NoImmediate, Span, Scale}
 use Rattle.lane_core.specs.declared.table.ParamKind.{ParamKind}
 use Rattle.lane_core.specs.declared.table.ParamKind.TheVariants as kind
 use Rattle.lane_core.specs.declared.table.Sig.{Sig}
@@ -15,20 +17,49 @@ use Rattle.c_memory.specs.declared.memory.Pointer.{Pointer}
 use Rattle.c_memory.specs.declared.memory.Pointer.TheVariants.{Null, At}
 use Rattle.c_memory.specs.declared.value.Value.{Value}
 use Rattle.c_memory.specs.Memory.{bytes_read, after_write}
-use Rattle.c_memory.specs.MeaningState.{State, Out, Done, Does, Undefined, undefined, defined, then_do}
+use Rattle.c_memory.specs.MeaningState.{State, Out, Done, Does, Undefined, undefined}
 use Rattle.c_memory.specs.MeaningValues.{at_distance}
 
 -- the definitions of a table of rows: the members of `VectorTable` of these names
 pub record RowTable (Op : Type 0) : Type 0 where
   pub find : List ℕ → Option Op
   pub signature : Op → Sig
+  pub range : Op → ImmRange
   pub accesses : Op → ℕ
   pub access : Op → List Arg → ℕ → ℕ → Option Access
   pub eval : Op → List Arg → ℕ → Arg
 
 -- the table with these members
-abbrev pub rows_of : {Op : Type 0} → (List ℕ → Option Op) → (Op → Sig) → (Op → ℕ) → (Op → List Arg → ℕ → ℕ → Option Access) → (Op → List Arg → ℕ → Arg) → RowTable Op
-rows_of find signature accesses access eval = record { find = find; signature = signature; accesses = accesses; access = access; eval = eval }
+abbrev pub rows_of : {Op : Type 0} → (List ℕ → Option Op) → (Op → Sig) → (Op → ImmRange) → (Op → ℕ) → (Op → List Arg → ℕ → ℕ → Option Access) → (Op → List Arg → ℕ → Arg) → RowTable Op
+rows_of find signature range accesses access eval =
+    record { find = find; signature = signature; range = range; accesses = accesses; access = access; eval = eval }
+
+-- ---- arguments
+
+-- the value is one of a parameter's kind; an integer may have any type, since it is passed modulo 2 ^ 64
+abbrev pub fits_kind : ParamKind → Value → Bool
+fits_kind (kind.Reg bytes) (Value.R8 r) = bytes == 8
+fits_kind (kind.Reg bytes) (Value.R16 r) = bytes == 16
+fits_kind (kind.Reg bytes) (Value.R32 r) = bytes == 32
+fits_kind (kind.Lane lanes false) (Value.R8 r) = true
+fits_kind (kind.Lane lanes true) (Value.R16 r) = true
+fits_kind kind.Pair (Value.R32 r) = true
+fits_kind (kind.Scalar t) (Value.Int n) = true
+fits_kind kind.Immediate (Value.Int n) = true
+fits_kind (kind.PointerTo e constant) (Value.At p) = true
+fits_kind k v = false
+
+-- one value for each parameter, in order
+abbrev pub fits_kinds : List ParamKind → List Value → Bool
+fits_kinds [] [] = true
+fits_kinds (k ∷ ks) (v ∷ vs) = fits_kind k v && fits_kinds ks vs
+fits_kinds _ _ = false
+
+-- the number is one that the immediate may have; it is 0 for a row without one
+abbrev pub is_in_range : ImmRange → ℕ → Bool
+is_in_range NoImmediate n = n == 0
+is_in_range (Span low high) n = nat_le low n && nat_le n high
+is_in_range Scale n = n == 1 || (n == 2 || (n == 4 || n == 8))
 
 -- a value as an argument: an integer modulo 2 ^ 64, a vector, and for a pointer nothing
 abbrev pub argument : Value → Arg
@@ -75,9 +106,9 @@ size_of_kind (kind.Lane lanes false) = 8
 size_of_kind kind.Pair = 32
 size_of_kind k = 0
 
--- the register of these bytes as an argument
-abbrev pub register : ℕ → List ℕ → Arg
-register size bytes = if nat_eq size 8 then Arg.R8 bytes else if nat_eq size 16 then Arg.R16 bytes else if nat_eq size 32 then Arg.R32 bytes else Arg.Nothing
+-- the register of these bytes as an argument; none has another size
+abbrev pub register : ℕ → List ℕ → Option Arg
+register size bytes = if size == 8 then Some (Arg.R8 bytes) else if size == 16 then Some (Arg.R16 bytes) else if size == 32 then Some (Arg.R32 bytes) else None
 
 abbrev pub bytes_of : Arg → List ℕ
 bytes_of (Arg.R8 r) = r
@@ -93,6 +124,8 @@ given k (Arg.R8 r) = Some (Value.R8 r)
 given k (Arg.R16 r) = Some (Value.R16 r)
 given k (Arg.R32 r) = Some (Value.R32 r)
 given k a = None
+
+-- ---- accesses
 
 -- the accesses that are there, of the first n
 abbrev pub and_one : List Access → Option Access → List Access
@@ -112,43 +145,72 @@ access_at (At block offset) distance = option_map (At block) (at_distance offset
 abbrev pub put : List ℕ → ℕ → List ℕ → List ℕ
 put r at bytes = take at r ++ (bytes ++ drop (at + length bytes) r)
 
-abbrev pub read_one : List Block → Pointer → Access → Option (List ℕ)
-read_one memory p a = option_and_then (λ q. bytes_read memory q a.align a.size) (access_at p a.offset)
+-- the alignment is a power of two, here up to 64
+abbrev pub is_alignment : ℕ → Bool
+is_alignment n = n == 1 || (n == 2 || (n == 4 || (n == 8 || (n == 16 || (n == 32 || n == 64)))))
+
+-- the access may be made for a register of that many bytes: its alignment is one, and its bytes have their place in the register
+abbrev pub is_access : ℕ → Access → Bool
+is_access size a = is_alignment a.align && nat_le (a.at + a.size) size
+
+-- the bytes that an access reads for a register of that many bytes
+abbrev pub read_one : ℕ → List Block → Pointer → Access → Option (List ℕ)
+read_one size memory p a = if is_access size a then option_and_then (λ q. bytes_read memory q a.align a.size) (access_at p a.offset) else None
 
 -- the register after these accesses are read in turn
 abbrev pub read_each : List Block → Pointer → List Access → List ℕ → Option (List ℕ)
 read_each memory p [] r = Some r
-read_each memory p (a ∷ rest) r = option_and_then (λ bytes. read_each memory p rest (put r a.at bytes)) (read_one memory p a)
+read_each memory p (a ∷ rest) r = option_and_then (λ bytes. read_each memory p rest (put r a.at bytes)) (read_one (length r) memory p a)
 
 -- the memory after these accesses are written in turn
 abbrev pub write_one : Pointer → List ℕ → Access → List Block → Option (List Block)
-write_one p r a memory = option_and_then (λ q. after_write memory q a.align (take a.size (drop a.at r))) (access_at p a.offset)
+write_one p r a memory =
+    if is_access (length r) a then option_and_then (λ q. after_write memory q a.align (take a.size (drop a.at r))) (access_at p a.offset) else None
 
 abbrev pub write_each : Pointer → List ℕ → List Access → List Block → Option (List Block)
 write_each p r [] memory = Some memory
 write_each p r (a ∷ rest) memory = option_and_then (write_each p r rest) (write_one p r a memory)
 
--- the arguments, and for a reading row the bytes read last
+-- ---- calls
+
+-- the arguments, and for a reading row the bytes read last, as a register of its result's size
 abbrev pub with_bytes_read : Sig → List Block → Pointer → List Access → List Arg → Option (List Arg)
 with_bytes_read sig memory p all args =
     let size = size_of_kind sig.result in
-    if reads (params_of sig) then option_map (λ r. args ++ (register size r ∷ [])) (read_each memory p (filter (λ a. not a.write) all) (replicate size 0)) else Some args
+    if reads (params_of sig) then
+    option_and_then (λ r. option_map (λ a. args ++ (a ∷ [])) (register size r)) (read_each memory p (filter (λ a. not a.write) all) (replicate size 0))
+    else Some args
 
--- the value that the row gives, and the memory after it
-abbrev pub row_done : State → ParamKind → Arg → Option (List Block) → Out (Option Value)
-row_done s k result None = Undefined
-row_done s k result (Some memory) = Done (given k result) (record s { memory = memory })
+-- the row's formula for these arguments: the value that it gives, and the memory after its accesses are written
+abbrev pub row_applied : {Op : Type 0} → RowTable Op → Op → ℕ → Pointer → List Access → List Block → List Arg → Option (Option Value × List Block)
+row_applied table op imm p all memory args =
+    let result = table.eval op args imm in
+    option_map (λ after. (given (table.signature op).result result, after)) (write_each p (bytes_of result) (filter (λ a. a.write) all) memory)
 
-abbrev pub row_call : {Op : Type 0} → RowTable Op → Op → List Value → Does (Option Value)
-row_call table op values = λ s.
+-- a call with values that fit: what the row gives, and the memory after it
+abbrev pub row_made : {Op : Type 0} → RowTable Op → Op → List Value → List Block → Option (Option Value × List Block)
+row_made table op values memory =
     let sig = table.signature op in
     let args = arguments (params_of sig) values in
     let imm = immediate (params_of sig) values in
     let p = pointer_among values in
     let all = first_accesses (table.access op args imm) (table.accesses op) in
-    then_do (defined (with_bytes_read sig s.memory p all args) s) (λ whole t.
-    let result = table.eval op whole imm in
-    row_done t sig.result result (write_each p (bytes_of result) (filter (λ a. a.write) all) t.memory))
+    option_and_then (row_applied table op imm p all memory) (with_bytes_read sig memory p all args)
+
+-- the values are of the parameters' kinds, and the immediate among them is in its range
+abbrev pub may_call : Sig → ImmRange → List Value → Bool
+may_call sig range values = fits_kinds (params_of sig) values && is_in_range range (immediate (params_of sig) values)
+
+-- what a call of the row gives, and the memory after it; none where it is undefined
+abbrev pub row_result : {Op : Type 0} → RowTable Op → Op → List Value → List Block → Option (Option Value × List Block)
+row_result table op values memory = if may_call (table.signature op) (table.range op) values then row_made table op values memory else None
+
+abbrev pub row_done : State → Option (Option Value × List Block) → Out (Option Value)
+row_done s None = Undefined
+row_done s (Some (v, memory)) = Done v (record s { memory = memory })
+
+abbrev pub row_call : {Op : Type 0} → RowTable Op → Op → List Value → Does (Option Value)
+row_call table op values = λ s. row_done s (row_result table op values s.memory)
 
 -- a call by name: of the row of that name, and undefined where there is none
 abbrev pub found_call : {Op : Type 0} → RowTable Op → Option Op → List Value → Does (Option Value)

@@ -1,0 +1,10 @@
+//! Which objects of a function have their address taken, by what their scopes have (C11 6.2.1).
+#![tactic(auto)]
+
+mod taken;
+mod takes;
+#[cfg(test)]
+mod tests;
+
+pub use taken::{FunctionTaken, Taken, address_taken};
+pub use takes::takes_statements;
