@@ -1,1 +1,4 @@
+pub mod Complete
 pub mod Initialisers
+pub mod ObjectTests
+pub mod Sound

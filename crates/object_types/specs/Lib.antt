@@ -1,2 +1,3 @@
 pub mod Reserved
 pub mod Objects
+pub mod Typed

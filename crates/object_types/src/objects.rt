@@ -5,6 +5,7 @@ ghost use Rattle.c_tree.specs.Same.{unnumbered};
 ghost use Rattle.c_tree.specs.View.{view, views, view_declared};
 ghost use Rattle.type_rules.specs.Types.{assigned};
 ghost use Rattle.scopes.specs.Scopes.{env_of, with_object};
+ghost use Rattle.scopes.specs.Kept.{at_file, OnRefusal};
 ghost use Rattle.expression_types.specs.Check.{Gives};
 ghost use Rattle.object_types.specs.Objects.{is_no_trees, count_all, element_of, number_of, is_open, with_number, known, seen_length, length_of, stands_before, aligned, seen_start, closed_type, small_once, value_fits, number_for, counted, start, declared_type, behind_name, check_object};
 
@@ -72,7 +73,8 @@ fn unnumbered(t: CType) -> CType
     }
 }
 
-fn known(constant: bool, t: CType) -> Object
+/// An object as a scope knows it: the elements of a const array are const.
+pub fn known(constant: bool, t: CType) -> Object
     ensures { result ≡ known constant t }
 {
     match t {
@@ -82,6 +84,13 @@ fn known(constant: bool, t: CType) -> Object
         },
         _ => Object { ty: t, constant },
     }
+}
+
+/// The type of a declared object, as the dialect reads it; an array's has the number of its elements, where it is known.
+pub fn declared_type(number: Option<u64>, t: CType, env: &Environment) -> CType
+    ensures { result ≡ declared_type number t (env_of env.now) }
+{
+    with_number(number, unnumbered(read_type(env.dialect, t)))
 }
 
 fn length_of(alloc: Global, env: &Environment, length: &Option<Expr>) -> Result<Length, Fail>
@@ -103,7 +112,8 @@ fn length_of(alloc: Global, env: &Environment, length: &Option<Expr>) -> Result<
     }
 }
 
-fn stands_before(align: &Option<Expr>, place: Place) -> bool
+/// Whether an alignment stands before the declared name, which has this place.
+pub fn stands_before(align: &Option<Expr>, place: Place) -> bool
     ensures { result ≡ stands_before (option_map view align.now) place }
 {
     match align {
@@ -267,7 +277,7 @@ fn begins_with(alloc: Global, env: &Environment, d: &Declared, t: CType) -> Resu
     }
 }
 
-// The parts of an object behind its name, which is seen there. The scopes are as before afterwards.
+// The parts of an object behind its name, which is seen there. The scopes are as before afterwards; where it is refused, the file's is.
 fn behind_name(
     alloc: Global,
     env: &mut Environment,
@@ -277,10 +287,11 @@ fn behind_name(
 ) -> Result<Declared, Fail>
     ensures value { Gives view_declared result (behind_name (view_declared d.now) (option_map view align) (env_of env.old) (seen_length length)) }
     ensures names { OnOk result (env_of env.new ≡ env_of env.old) }
+    ensures kept { OnRefusal result (at_file (env_of env.new) ≡ at_file (env_of env.old)) }
     ensures named { IfOk result (λ v. v.name ≡ d.now.name) }
     ensures constant { IfOk result (λ v. v.constant ≡ d.now.constant) }
 {
-    let t = with_number(length.number, unnumbered(read_type(env.dialect, d.ty)));
+    let t = declared_type(length.number, d.ty, &*env);
     small_once(alloc, !is_open(t), &d.name, d.place, t)?;
     env.open(alloc)?;
     env.declare(alloc, d.name.bytes(), known(d.constant, t))?;
@@ -301,10 +312,11 @@ fn behind_name(
     })
 }
 
-/// A declared object with its types. The innermost scope declares it then.
+/// A declared object with its types. The innermost scope declares it then. Where it is refused, the file's scope is as before.
 pub fn check_object(alloc: Global, env: &mut Environment, d: &Declared) -> Result<Declared, Fail>
     ensures value { Gives view_declared result (check_object (view_declared d.now) (env_of env.old)) }
     ensures names { IfOk result (λ v. env_of env.new ≡ with_object v.name (known v.constant v.ty) (env_of env.old)) }
+    ensures kept { OnRefusal result (at_file (env_of env.new) ≡ at_file (env_of env.old)) }
 {
     let align = copy_of(alloc, &d.align)?;
     let align = aligned(alloc, stands_before(&d.align, d.place), &*env, align)?;

@@ -55,7 +55,8 @@ fn unfit(alloc: Global, e: &Expr) -> Result<Fail, AllocError>
     fault(alloc, 11, node.place, &node.kind)
 }
 
-fn is_object_type(t: CType) -> bool
+/// Whether an object may have the type: not `void`, nor an array of it.
+pub fn is_object_type(t: CType) -> bool
     ensures { result ≡ is_object_type t }
 {
     match t {
@@ -195,7 +196,8 @@ fn is_member(t: CType, room: bool, e: &Expr) -> bool
     room && is_integer(t) && is_integer(e.ty) && eval_const(e).is_ok()
 }
 
-fn member(alloc: Global, t: CType, room: bool, e: Expr) -> Result<Expr, Fail>
+/// A member of an initialiser for an array of elements of the type `t`, which has its types: an integer constant, where there is room for it.
+pub fn member(alloc: Global, t: CType, room: bool, e: Expr) -> Result<Expr, Fail>
     ensures { Gives view result (member t room (view e)) }
 {
     if is_member(t, room, &e) {

@@ -35,6 +35,8 @@ x char[] 65536 - - - -> Array(Int(Char), 65536, false)
 x char[] 65537 - - - -> 20 10 x
 x vector[] 2 - - 1 -> 11 40 1
 x int - - - 1 -> 11 40 1
+x int - - x - -> Int(Int)
+x int[] x - - - -> 10 20 x
 x int[] 2 - 1 - -> 11 10 x";
 
 fn type_named(name: &str) -> Option<CType> {

@@ -2,6 +2,7 @@
 #![tactic(auto)]
 
 mod declarations;
+mod laws;
 mod parts;
 mod statements;
 #[cfg(test)]
@@ -10,4 +11,5 @@ mod tests;
 pub use c_tree::{CType, Declared, Expr, Place, Stmt};
 pub use declarations::check_objects;
 pub use expression_types::{Environment, Fail, Refusal};
+pub use laws::statements_are_typed_by_rules;
 pub use statements::check_body;

@@ -1,15 +1,15 @@
 //! The expressions of statements.
 
 ghost use Rattle.std.specs.Prelude.{◌≡◌, IfOk, option_map};
-ghost use Rattle.c_tree.specs.View.{view};
+ghost use Rattle.c_tree.specs.View.{view, view_stmt};
 ghost use Rattle.type_rules.specs.Types.{assigned};
 ghost use Rattle.scopes.specs.Scopes.{env_of};
 ghost use Rattle.c_text.specs.declared.refusals.Fail.TheVariants.{Refused};
 ghost use Rattle.expression_types.specs.Check.{Gives};
-ghost use Rattle.statement_types.specs.Statements.{scalar, condition, maybe_condition, maybe_expression, returned_value, returned};
+ghost use Rattle.statement_types.specs.Statements.{scalar, condition, maybe_condition, maybe_expression, returned_value, returned, in_a_loop};
 
 use c_text::{Refusal, Text};
-use c_tree::{CType, Expr, Place};
+use c_tree::{CType, Expr, Place, Stmt};
 use expression_types::{Environment, Fail, check_expression, fault};
 use std::alloc::{AllocError, Global};
 use type_rules::{assigned_expr, is_scalar, same_type};
@@ -24,6 +24,24 @@ pub fn word_fault(alloc: Global, place: Place, word: &[u8]) -> Result<Fail, Allo
         place,
         detail,
     }))
+}
+
+/// The statement, which stands in a loop, or the refusal of its word.
+pub fn in_a_loop(
+    alloc: Global,
+    looped: bool,
+    place: Place,
+    word: &[u8],
+    s: Stmt,
+) -> Result<Stmt, Fail>
+    ensures value { Gives view_stmt result (in_a_loop looped place word.now (view_stmt s)) }
+    ensures same { IfOk result (λ v. v ≡ s) }
+{
+    if looped {
+        Ok(s)
+    } else {
+        Err(word_fault(alloc, place, word)?)
+    }
 }
 
 fn scalar(alloc: Global, e: Expr) -> Result<Expr, Fail>

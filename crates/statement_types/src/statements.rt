@@ -1,13 +1,14 @@
 //! Statements.
 
-ghost use Rattle.std.specs.Prelude.{◌≡◌, OnOk, IfOk, map, option_map, codes, false};
+ghost use Rattle.std.specs.Prelude.{◌≡◌, OnOk, IfOk, map, option_map, codes, true, false};
 ghost use Rattle.c_tree.specs.View.{view, view_stmt, view_stmts, view_optional};
 ghost use Rattle.scopes.specs.Scopes.{env_of, opened};
+ghost use Rattle.scopes.specs.Kept.{at_file, is_inside, OnRefusal};
 ghost use Rattle.expression_types.specs.Check.{Gives};
 ghost use Rattle.statement_types.specs.Statements.{around, beyond, beyond_optional, beyond_all, check_statement, check_optional, check_statements};
 
 use crate::declarations::check_objects;
-use crate::parts::{condition, maybe_condition, maybe_expression, returned, word_fault};
+use crate::parts::{condition, in_a_loop, maybe_condition, maybe_expression, returned};
 use c_tree::{CType, Stmt};
 use expression_types::{Environment, Fail, check_expression};
 use scopes::scopes_end;
@@ -24,6 +25,7 @@ fn statement(
 ) -> Result<Stmt, Fail>
     ensures value { Gives view_stmt result (check_statement (view_stmt s.now) (around (env_of env.old) returns looped)) }
     ensures names { IfOk result (λ v. env_of env.new ≡ beyond (view_stmt v) (env_of env.old)) }
+    ensures kept { is_inside (env_of env.old) ≡ true → OnRefusal result (at_file (env_of env.new) ≡ at_file (env_of env.old)) }
 {
     match s {
         Stmt::Declare(all) => Ok(Stmt::Declare(check_objects(alloc, env, all.as_slice())?)),
@@ -58,16 +60,10 @@ fn statement(
             scopes_end();
             Ok(Stmt::For(i, e, n, s))
         }
-        Stmt::Break(place) => if looped {
-            Ok(Stmt::Break(*place))
-        } else {
-            Err(word_fault(alloc, *place, b"break")?)
-        },
-        Stmt::Continue(place) => if looped {
-            Ok(Stmt::Continue(*place))
-        } else {
-            Err(word_fault(alloc, *place, b"continue")?)
-        },
+        Stmt::Break(place) => in_a_loop(alloc, looped, *place, b"break", Stmt::Break(*place)),
+        Stmt::Continue(place) => {
+            in_a_loop(alloc, looped, *place, b"continue", Stmt::Continue(*place))
+        }
         Stmt::Return(place, e) => {
             let e = returned(alloc, &*env, *place, returns, e)?;
             Ok(Stmt::Return(*place, e))
@@ -87,6 +83,7 @@ fn inner(
 ) -> Result<Box<Stmt>, Fail>
     ensures value { Gives (λ b. view_stmt b.value) result (check_statement (view_stmt s.now) (around (opened (env_of env.old)) returns looped)) }
     ensures names { OnOk result (env_of env.new ≡ env_of env.old) }
+    ensures kept { OnRefusal result (at_file (env_of env.new) ≡ at_file (env_of env.old)) }
 {
     env.open(alloc)?;
     let s = statement(alloc, env, returns, looped, s)?;
@@ -106,6 +103,7 @@ fn inner_optional(
 ) -> Result<Option<Box<Stmt>>, Fail>
     ensures value { Gives view_optional result (check_optional (view_optional s.now) (around (opened (env_of env.old)) returns looped)) }
     ensures names { OnOk result (env_of env.new ≡ env_of env.old) }
+    ensures kept { OnRefusal result (at_file (env_of env.new) ≡ at_file (env_of env.old)) }
 {
     match s {
         None => Ok(None),
@@ -124,6 +122,7 @@ fn optional(
 ) -> Result<Option<Box<Stmt>>, Fail>
     ensures value { Gives view_optional result (check_optional (view_optional s.now) (around (env_of env.old) returns looped)) }
     ensures names { IfOk result (λ v. env_of env.new ≡ beyond_optional (view_optional v) (env_of env.old)) }
+    ensures kept { is_inside (env_of env.old) ≡ true → OnRefusal result (at_file (env_of env.new) ≡ at_file (env_of env.old)) }
 {
     match s {
         None => Ok(None),
@@ -145,6 +144,7 @@ fn block(
 ) -> Result<Vec<Stmt>, Fail>
     ensures value { Gives (λ v. view_stmts v.items) result (check_statements (view_stmts all.now) (around (opened (env_of env.old)) returns looped)) }
     ensures names { OnOk result (env_of env.new ≡ env_of env.old) }
+    ensures kept { OnRefusal result (at_file (env_of env.new) ≡ at_file (env_of env.old)) }
 {
     env.open(alloc)?;
     let out = statements(alloc, env, returns, looped, all)?;
@@ -164,6 +164,7 @@ fn statements(
 ) -> Result<Vec<Stmt>, Fail>
     ensures value { Gives (λ v. view_stmts v.items) result (check_statements (view_stmts all.now) (around (env_of env.old) returns looped)) }
     ensures names { IfOk result (λ v. env_of env.new ≡ beyond_all (view_stmts v.items) (env_of env.old)) }
+    ensures kept { is_inside (env_of env.old) ≡ true → OnRefusal result (at_file (env_of env.new) ≡ at_file (env_of env.old)) }
 {
     let mut out = Vec::new(alloc);
     for s in all {
@@ -182,6 +183,7 @@ pub fn check_body(
 ) -> Result<Vec<Stmt>, Fail>
     ensures value { Gives (λ v. view_stmts v.items) result (check_statements (view_stmts all.now) (around (env_of env.old) returns false)) }
     ensures names { IfOk result (λ v. env_of env.new ≡ beyond_all (view_stmts v.items) (env_of env.old)) }
+    ensures kept { is_inside (env_of env.old) ≡ true → OnRefusal result (at_file (env_of env.new) ≡ at_file (env_of env.old)) }
 {
     statements(alloc, env, returns, false, all)
 }

@@ -1,10 +1,13 @@
-use Rattle.std.proofs.Common.{◌≡◌, ◌∙◌, ◌+◌, ◌∷◌, ◌++◌, [], sym, ap, drop, map, arith}
+use Rattle.std.proofs.Common.{◌≡◌, ◌∙◌, ◌+◌, ◌∷◌, ◌++◌, [], sym, ap, drop, map, arith, rules}
 use Rattle.std.proofs.lemmas.Grind.{common_steps}
 use Rattle.std.proofs.lemmas.List.{map-append}
 use Rattle.c_tree.specs.View.{view_declared}
 use Rattle.scopes.specs.Scopes.{env_of, with_object}
+use Rattle.scopes.specs.Kept.{at_file, OnRefusal}
+use Rattle.scopes.proofs.Outermost.{on_refusal_then}
 use Rattle.object_types.specs.Objects.{known}
 use Rattle.statement_types.specs.Statements.{with_objects}
+use Rattle.statement_types.proofs.FileScope.{objects_at_file}
 use Rattle.statement_types.proofs.Rows.{objects_one_more, with_objects-append}
 use Rattle.statement_types.proofs.declarations.check_objects.Goals as goal
 
@@ -20,3 +23,9 @@ loop-d-preserved c =
           c.in_ok-v.ensures.names ∙ ap (with_object v.name (known v.constant v.ty)) c.loop-d.invariant.names ∙
           sym (ap (λ l. with_objects l (env_of c.args.env.now)) seen ∙ with_objects-append (map view_declared c.loop-d.out.items) (view_declared v) (env_of c.args.env.now));
     }
+
+pub returns-in_err-v-clause-kept : goal.returns-in_err-v-clause-kept
+returns-in_err-v-clause-kept c =
+    let env = env_of c.args.env.now in
+    let kept : OnRefusal c.from_residual.result (at_file (env_of c.check_object.new.env) ≡ at_file (env_of c.loop-d.env)) = search rules in
+    λ inside. on_refusal_then c.from_residual.result (λ e. e ∙ ap at_file c.loop-d.invariant.names ∙ objects_at_file (map view_declared c.loop-d.out.items) env inside) kept

@@ -1,13 +1,16 @@
-use Rattle.std.proofs.Common.{◌≡◌, ◌∙◌, ◌+◌, ◌∷◌, sym, ap, drop, arith, rules, Option, Some, None, option_map, Box}
+use Rattle.std.proofs.Common.{◌≡◌, ◌∙◌, ◌+◌, ◌∷◌, [], true, sym, ap, subst, drop, arith, rules, Option, Some, None, option_map, Box}
 use Rattle.std.specs.declared.alloc.Global.{Global}
 use Rattle.c_tree.specs.declared.expressions.Expr.{Expr}
 use Rattle.c_tree.specs.declared.statements.Stmt.{Stmt, the_lemmas}
 use Rattle.c_tree.specs.declared.statements.Stmt.TheVariants as form
 use Rattle.std.proofs.lemmas.Grind.{common_steps}
-use Rattle.c_tree.specs.Tree.{For}
+use Rattle.c_tree.specs.Tree.{Optional, For}
 use Rattle.c_tree.specs.View.{view, view_stmt, view_stmts, view_optional}
-use Rattle.scopes.specs.Scopes.{env_of, closed}
+use Rattle.scopes.specs.Scopes.{Env, env_of, opened, closed}
+use Rattle.scopes.specs.Kept.{at_file, is_inside, OnRefusal}
+use Rattle.scopes.proofs.Outermost.{opened_at_file, opened_inside, on_refusal, on_refusal_then}
 use Rattle.statement_types.specs.Statements.{beyond, beyond_optional, beyond_all}
+use Rattle.statement_types.proofs.FileScope.{optional_at_file, statements_inside, statements_at_file}
 use Rattle.statement_types.proofs.Rows.{statements_one_more, beyond_all-append, statement-ends, statements-end, optional-ends}
 use Rattle.statement_types.proofs.statements.+check.Goals as goal
 
@@ -42,3 +45,30 @@ statement-returns-in_ok-s-in-For-clause-names t c =
     c.close.ensures ∙
     ap closed (c.in_ok-s-in-For.ensures.names ∙ c.in_ok-i-in-For.ensures.names ∙ ap (beyond_optional (view_optional i)) c.in_ok-open-in-For.ensures) ∙
     optional-ends c.scopes_end.ensures (view_optional i) env ∙ sym (ap (λ s. beyond s env) (for_seen i c.in_ok-e-in-For.e c.in_ok-n-in-For.n c.in_ok-s-in-For.s))
+
+-- behind the first part of a `for`
+first_at_file : (o : Optional) (env started first : Env) → first ≡ beyond_optional o started → started ≡ opened env → at_file first ≡ at_file env
+first_at_file o env started first e h = ap at_file (e ∙ ap (beyond_optional o) h) ∙ optional_at_file o (opened env) (opened_inside env) ∙ opened_at_file env []
+
+pub statement-returns-in_err-e-in-For-clause-kept : goal.statement-returns-in_err-e-in-For-clause-kept
+statement-returns-in_err-e-in-For-clause-kept t c =
+    λ inside. on_refusal c.from_residual-in_err-e-in-For.result (first_at_file (view_optional c.in_ok-i-in-For.i) (env_of c.args.env.now) _ _ c.in_ok-i-in-For.ensures.names c.in_ok-open-in-For.ensures)
+
+pub statement-returns-in_err-n-in-For-clause-kept : goal.statement-returns-in_err-n-in-For-clause-kept
+statement-returns-in_err-n-in-For-clause-kept t c =
+    λ inside. on_refusal c.from_residual-in_err-n-in-For.result (first_at_file (view_optional c.in_ok-i-in-For.i) (env_of c.args.env.now) _ _ c.in_ok-i-in-For.ensures.names c.in_ok-open-in-For.ensures)
+
+pub statement-returns-in_err-s-in-For-clause-kept : goal.statement-returns-in_err-s-in-For-clause-kept
+statement-returns-in_err-s-in-For-clause-kept t c =
+    let kept : OnRefusal c.from_residual-in_err-s-in-For.result (at_file (env_of c.inner-in-For.new.env) ≡ at_file (env_of c.optional.new.env)) = search rules in
+    λ inside. on_refusal_then c.from_residual-in_err-s-in-For.result (λ e. e ∙ first_at_file (view_optional c.in_ok-i-in-For.i) (env_of c.args.env.now) _ _ c.in_ok-i-in-For.ensures.names c.in_ok-open-in-For.ensures) kept
+
+pub statements-returns-in_err-v-clause-kept : goal.statements-returns-in_err-v-clause-kept
+statements-returns-in_err-v-clause-kept t c =
+    let env = env_of c.args.env.now in
+    let vs = view_stmts c.loop-s.out.items in
+    λ inside.
+    (let here : is_inside (env_of c.loop-s.env) ≡ true = subst (λ e. is_inside e ≡ true) (sym c.loop-s.invariant.names) (statements_inside vs env inside) in
+    let said = c.in_err-v.ensures.kept here in
+    let kept : OnRefusal c.from_residual.result (at_file (env_of c.statement.new.env) ≡ at_file (env_of c.loop-s.env)) = search (rules, said) in
+    on_refusal_then c.from_residual.result (λ e. e ∙ ap at_file c.loop-s.invariant.names ∙ statements_at_file vs env inside) kept)
