@@ -1,0 +1,5 @@
+pub mod Complete
+pub mod InFunction
+pub mod Judging
+pub mod Lists
+pub mod Sound

@@ -1,0 +1,5 @@
+pub mod Functions
+pub mod Tables
+pub mod Units
+pub mod Answers
+pub mod Typed

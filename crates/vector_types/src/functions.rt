@@ -1,0 +1,111 @@
+//! Functions.
+
+ghost use Rattle.std.specs.Prelude.{◌≡◌, IfOk, OnOk, map, option_map, true};
+ghost use Rattle.c_tree.specs.View.{view, view_declared, view_function};
+ghost use Rattle.scopes.specs.Scopes.{env_of, with_object};
+ghost use Rattle.scopes.specs.Kept.{at_file, is_inside, OnRefusal, OnAnswer};
+ghost use Rattle.expression_types.specs.Check.{Gives};
+ghost use Rattle.object_types.specs.Objects.{known};
+ghost use Rattle.statement_types.specs.Statements.{with_objects};
+ghost use Rattle.vector_types.specs.Functions.{function_name, is_bare, check_parameter, check_parameters, is_helper, check_function};
+
+use crate::file_scope::is_taken;
+use c_text::{Dialect, Text};
+use c_tree::{CType, Declared, Function, Place};
+use expression_types::{Environment, Fail, name_fault};
+use object_types::{check_object, is_array, is_reserved};
+use statement_types::check_body;
+use std::alloc::Global;
+use type_rules::{is_void_pointer, read_type};
+
+// The name of a function that gives the type `t`.
+fn function_name(
+    alloc: Global,
+    env: &Environment,
+    name: &Text,
+    place: Place,
+    t: CType,
+) -> Result<(), Fail>
+    ensures { Gives (λ _. true) result (function_name name.now place t (env_of env.now)) }
+{
+    if is_reserved(env.dialect, name.bytes()) {
+        Err(name_fault(alloc, 12, place, name)?)
+    } else if is_taken(env, name.bytes()) {
+        Err(name_fault(alloc, 11, place, name)?)
+    } else if is_array(t) {
+        Err(name_fault(alloc, 11, place, name)?)
+    } else if is_void_pointer(t) {
+        Err(name_fault(alloc, 18, place, name)?)
+    } else {
+        Ok(())
+    }
+}
+
+fn is_bare(d: &Declared) -> bool
+    ensures { result ≡ is_bare (view_declared d.now) }
+{
+    !d.length.is_some() && !d.align.is_some() && !d.init.is_some() && !d.list.is_some()
+}
+
+// A parameter with its types. The innermost scope declares it then.
+fn check_parameter(alloc: Global, env: &mut Environment, d: &Declared) -> Result<Declared, Fail>
+    ensures value { Gives view_declared result (check_parameter (view_declared d.now) (env_of env.old)) }
+    ensures names { IfOk result (λ v. env_of env.new ≡ with_object v.name (known v.constant v.ty) (env_of env.old)) }
+    ensures kept { OnRefusal result (at_file (env_of env.new) ≡ at_file (env_of env.old)) }
+{
+    if is_bare(d) {
+        check_object(alloc, env, d)
+    } else {
+        Err(name_fault(alloc, 11, d.place, &d.name)?)
+    }
+}
+
+// Parameters with their types, each in the scope with those before it. The innermost scope declares them then.
+fn check_parameters(
+    alloc: Global,
+    env: &mut Environment,
+    all: &[Declared],
+) -> Result<Vec<Declared>, Fail>
+    ensures value { Gives (λ v. map view_declared v.items) result (check_parameters (map view_declared all.now) (env_of env.old)) }
+    ensures names { IfOk result (λ v. env_of env.new ≡ with_objects (map view_declared v.items) (env_of env.old)) }
+    ensures kept { is_inside (env_of env.old) ≡ true → OnRefusal result (at_file (env_of env.new) ≡ at_file (env_of env.old)) }
+{
+    let mut out = Vec::new(alloc);
+    for d in all {
+        let v = check_parameter(alloc, env, d)?;
+        out.push(v)?;
+    }
+    Ok(out)
+}
+
+fn is_helper(dialect: Dialect, name: &[u8]) -> bool
+    ensures { result ≡ is_helper dialect name.now }
+{
+    match dialect {
+        Dialect::X86 => false,
+        Dialect::Neon => name.starts_with(b"mg_"),
+    }
+}
+
+/// A function with its types. The file's scope is as before afterwards; others may be open.
+pub fn check_function(alloc: Global, env: &mut Environment, f: &Function) -> Result<Function, Fail>
+    ensures value { Gives view_function result (check_function (view_function f.now) (env_of env.old)) }
+    ensures kept { OnAnswer result (at_file (env_of env.new) ≡ at_file (env_of env.old)) }
+{
+    let result = read_type(env.dialect, f.result);
+    function_name(alloc, &*env, &f.name, f.place, result)?;
+    env.calls_none = is_helper(env.dialect, f.name.bytes());
+    env.open(alloc)?;
+    let params = check_parameters(alloc, env, f.params.as_slice())?;
+    let body = check_body(alloc, env, result, f.body.as_slice())?;
+    let name = f.name.copy(alloc)?;
+    Ok(Function {
+        place: f.place,
+        name,
+        result,
+        params,
+        is_static: f.is_static,
+        is_inline: f.is_inline,
+        body,
+    })
+}

@@ -1,0 +1,252 @@
+//! Units by ISO C11 and the profile: their types, and refusals with their places.
+use crate::laws::units_are_typed_by_rules;
+use crate::units::{CheckFail, check};
+use c_parse::parse;
+use c_preproc::scan;
+use c_text::{Dialect, Refusal, lex};
+use c_tree::{CType, Expr, ExprKind, Function, Item, Stmt, Unit};
+use std::alloc::{AllocError, Global};
+use std::process::Abort;
+use std::test::Fail as Wrong;
+
+// A text (`neon: ` before one of that dialect, `$` for a line end), and what it becomes: each table with its type, each function with the types of
+// its result and its parameters, and behind `=` the type of what it returns, before each conversion too; or its refusals: line, column, number, detail.
+// Here conversions, operators, casts, const and scopes.
+const TYPES: &str = "\
+int f(unsigned char c) { return c + 1u; } -> f: Int(Int)(Int(UChar)) = Int(Int) <- Int(UInt)
+int f(char c) { return c; } -> f: Int(Int)(Int(Char)) = Int(Int) <- Int(Char)
+neon: int f(char c) { return c; } -> f: Int(Int)(Int(UChar)) = Int(Int) <- Int(UChar)
+neon: const char t = 1; -> t: Int(UChar)
+neon: char f(void) { return 'a'; } -> f: Int(UChar)() = Int(UChar) <- Int(Int)
+const int t[] = {1, 2}; const int *f(void) { return t; } -> t: Array(Int(Int), 2, true), f: Pointer(Int(Int), true)() = Pointer(Int(Int), true) <- Array(Int(Int), 2, true)
+const int t = 1; const int *f(void) { return &t; } -> t: Int(Int), f: Pointer(Int(Int), true)() = Pointer(Int(Int), true)
+__m128i *f(__m128i *p) { return &p[1]; } -> f: Pointer(M128, false)(Pointer(M128, false)) = Pointer(M128, false)
+void f(int *p) { &p; } -> 1:18 11 &
+__m128i f(int c, __m128i a, __m128i b) { return c ? a : b; } -> f: M128(Int(Int), M128, M128) = M128
+__m128i f(__m128i a) { return a + a; } -> 1:33 11 +
+int *f(char *p) { return (int *)p; } -> f: Pointer(Int(Int), false)(Pointer(Int(Char), false)) = Pointer(Int(Int), false)
+void f(int x) { (void)x; } -> f: Void(Int(Int))
+int f(__m128i a) { return (int)a; } -> 1:27 11 (
+int *f(long x) { return (int *)x; } -> 1:25 11 (
+const int *f(int *p) { return p; } -> f: Pointer(Int(Int), true)(Pointer(Int(Int), false)) = Pointer(Int(Int), true) <- Pointer(Int(Int), false)
+unsigned char *f(char *p) { return p; } -> f: Pointer(Int(UChar), false)(Pointer(Int(Char), false)) = Pointer(Int(UChar), false) <- Pointer(Int(Char), false)
+int *f(void) { return 0; } -> f: Pointer(Int(Int), false)() = Pointer(Int(Int), false) <- Int(Int)
+int *f(const int *p) { return p; } -> 1:24 11 return
+void f(int *p, long *q) { p = q; } -> 1:29 11 =
+void f(const int *p) { *p = 1; } -> 1:27 11 =
+void f(const int x) { x = 1; } -> 1:25 11 =
+const int t = 1; void f(void) { t++; } -> 1:34 11 ++
+int f(void) { int x = x; return x; } -> f: Int(Int)() = Int(Int)
+int f(int x) { { int x = 1; } return x; } -> f: Int(Int)(Int(Int)) = Int(Int)
+const int x = 1; int f(int x) { return x; } -> x: Int(Int), f: Int(Int)(Int(Int)) = Int(Int)
+int f(int x) { int x; return x; } -> 1:20 11 x
+int f(int x, int x) { return x; } -> 1:18 11 x";
+
+// The same of excluded forms, reserved names and tables.
+const NAMES: &str = "\
+int f(int x) { for (int i = 0; i < x; i++) ; return i; } -> 1:53 10 i
+int x; -> 1:5 18 x
+void f(void *p) { } -> 1:14 18 p
+void *f(void) { return 0; } -> 1:7 18 f
+void f(int *p) { (void *)p; } -> 1:18 18 (
+int f(void) { return sizeof(void *); } -> 1:22 18 sizeof
+int g(void) { return 0; } int f(void) { return g; } -> 1:48 18 g
+__m256i f(__m128i a) { return _mm256_castsi128_si256(a); } -> 1:31 18 _mm256_castsi128_si256
+neon: int g(void) { return 1; } int mg_f(void) { return g(); } -> 1:51 18 g
+neon: int mg_f(void) { return 1; } int g(void) { return mg_f(); } -> mg_f: Int(Int)() = Int(Int), g: Int(Int)() = Int(Int)
+int f(void x) { return 0; } -> 1:12 11 x
+int vaddq_u8(int x) { return x; } -> 1:5 12 vaddq_u8
+int f(int vaddq_u8) { return 0; } -> 1:11 12 vaddq_u8
+int mg_f(void) { return 0; } -> 1:5 12 mg_f
+const int __builtin_t = 1; -> 1:11 12 __builtin_t
+int f(void) { int NULL; return 0; } -> 1:19 12 NULL
+neon: int vaddq_u8(int x) { return x; } -> 1:5 12 vaddq_u8
+neon: int NULL(void) { return 0; } -> NULL: Int(Int)() = Int(Int)
+const int t[3] = {1, 2}; -> t: Array(Int(Int), 3, true)
+static const unsigned t = 1; -> t: Int(UInt)
+const int t[3] = {1, x}; -> 1:22 10 x
+const int t[2] = {1, 2, 3}; -> 1:25 11 3
+const int t[y] = {1}; -> 1:13 10 y
+const int t[0] = {1}; -> 1:13 11 0
+const int u = 1; const int t = u; -> 1:32 11 u
+const int u[2] = {1}; const int t = u; -> 1:37 11 u
+const __m128i t = 0; -> 1:15 11 t
+const char t[65537] = {1}; -> 1:12 20 t
+_Alignas(3) const int t = y; -> 1:10 11 3
+const int t __attribute__((aligned(3))) = y; -> 1:36 11 3
+const int t = 1; const long t = 2; -> 1:29 11 t
+const int f = 1; int f(void) { return 0; } -> 1:22 11 f
+int f(void) { return 0; } const int f = 1; -> 1:37 11 f";
+
+// The same of items that are refused, of calls and of statements.
+const ITEMS: &str = "\
+int f(void) { return 0; } int f(void) { return 1; } -> 1:31 11 f
+const int t[2] = {1, x}; unsigned long f(void) { return t[0] + sizeof t; } -> 1:22 10 x
+int x; void f(void) { x = 1; } -> 1:5 18 x
+int g(int x) { return y; } int f(void) { return g(); } -> 1:23 10 y; 1:49 11 g
+int f(int x) { return y; } int g(int x) { return z; } const int t = 1; -> 1:23 10 y; 1:50 10 z
+int f(int x) { return f(x); } -> 1:23 17 f
+int f(void) { return g(); } int g(void) { return 0; } -> 1:22 17 g
+int g(void); int f(void) { return g(); } -> 1:35 10 g
+int f(void) { return g(y); } -> 1:22 10 g
+int g(int x) { return x; } int f(void) { return g(y); } -> 1:51 10 y
+int f(void) { int g; return g(1); } -> 1:29 11 g
+int f(int x) { x = x++ + 1; return x; } -> f: Int(Int)(Int(Int)) = Int(Int)
+int f(void) { return y; } -> 1:22 10 y
+int f(__m128i a) { return a; } -> 1:20 11 return
+int f(int x) { char t[65537]; return x; } -> 1:21 20 t
+unsigned f(unsigned c, unsigned char b) { return _mm_crc32_u8(c, b); }$int g(int x) { return _mm_popcnt_u32(x); } -> 1:50 13 _mm_crc32_u8; 2:23 13 _mm_popcnt_u32
+int f(__m128i a) { if (a) return y; return 0; } -> 1:24 11 a
+void f(void) { break; } -> 1:16 11 break
+void f(int x) { return x; } -> 1:17 11 return";
+
+fn put(out: &mut Vec<u8>, text: &str) -> Result<(), AllocError> {
+    out.extend_from_slice(text.as_bytes())?;
+    Ok(())
+}
+
+fn put_type(alloc: Global, out: &mut Vec<u8>, t: CType) -> Result<(), AllocError> {
+    let text = format!(in alloc; "{t:?}")?;
+    put(out, text.as_str())
+}
+
+fn show_value(alloc: Global, out: &mut Vec<u8>, e: &Expr) -> Result<(), AllocError> {
+    put_type(alloc, out, e.ty)?;
+    match &*e.kind {
+        ExprKind::Cast(_, a, false) => {
+            put(out, " <- ")?;
+            show_value(alloc, out, a)
+        }
+        _ => Ok(()),
+    }
+}
+
+fn show_returned(alloc: Global, out: &mut Vec<u8>, body: &[Stmt]) -> Result<(), AllocError> {
+    for s in body {
+        if let Stmt::Return(_, Some(e)) = s {
+            put(out, " = ")?;
+            show_value(alloc, out, e)?;
+        }
+    }
+    Ok(())
+}
+
+fn show_function(alloc: Global, out: &mut Vec<u8>, f: &Function) -> Result<(), AllocError> {
+    out.extend_from_slice(f.name.bytes())?;
+    put(out, ": ")?;
+    put_type(alloc, out, f.result)?;
+    put(out, "(")?;
+    let mut before = "";
+    for d in f.params.as_slice() {
+        put(out, before)?;
+        before = ", ";
+        put_type(alloc, out, d.ty)?;
+    }
+    put(out, ")")?;
+    show_returned(alloc, out, f.body.as_slice())
+}
+
+fn show_unit(alloc: Global, unit: &Unit) -> Result<Vec<u8>, AllocError> {
+    let mut out = Vec::new(alloc);
+    let mut before = "";
+    for item in unit.items.as_slice() {
+        put(&mut out, before)?;
+        before = ", ";
+        match item {
+            Item::Function(f) => show_function(alloc, &mut out, f)?,
+            Item::Table(d, _) => {
+                out.extend_from_slice(d.name.bytes())?;
+                put(&mut out, ": ")?;
+                put_type(alloc, &mut out, d.ty)?;
+            }
+        }
+    }
+    Ok(out)
+}
+
+fn show_refusals(alloc: Global, list: &[Refusal]) -> Result<Vec<u8>, AllocError> {
+    let mut out = Vec::new(alloc);
+    let mut before = "";
+    for r in list {
+        put(&mut out, before)?;
+        before = "; ";
+        let line = r.place.line;
+        let col = r.place.col;
+        let number = r.number;
+        let text = format!(in alloc; "{line}:{col} {number} ")?;
+        put(&mut out, text.as_str())?;
+        out.extend_from_slice(r.detail.bytes())?;
+    }
+    Ok(out)
+}
+
+fn read(alloc: Global, text: &str, dialect: Dialect) -> Result<Unit, Wrong> {
+    let mut bytes = Vec::new(alloc);
+    for line in text.split('$') {
+        put(&mut bytes, line)?;
+        put(&mut bytes, "\n")?;
+    }
+    if bytes.len() > 1000 {
+        return Err("too long".into());
+    }
+    let tokens = lex(alloc, bytes.as_slice()).map_err(|_| "no tokens")?;
+    scan(alloc, tokens.as_slice(), dialect).map_err(|_| "no C")?;
+    Ok(parse(alloc, tokens.as_slice(), dialect).map_err(|_| "no unit")?)
+}
+
+fn outcome(alloc: Global, text: &str, dialect: Dialect) -> Result<Vec<u8>, Wrong> {
+    let unit = read(alloc, text, dialect)?;
+    match check(alloc, &unit, dialect) {
+        Ok(typed) => Ok(show_unit(alloc, typed.unit())?),
+        Err(CheckFail::Refused(list)) => Ok(show_refusals(alloc, list.as_slice())?),
+        Err(CheckFail::Memory) => Err("memory")?,
+    }
+}
+
+fn agree(rt: &impl Abort, alloc: Global, rows: &str) -> Result<(), Wrong> {
+    for row in rows.lines() {
+        let (text, want) = row.split_once(" -> ").ok_or("malformed")?;
+        let found = match text.strip_prefix("neon: ") {
+            Some(text) => outcome(alloc, text, Dialect::Neon)?,
+            None => outcome(alloc, text, Dialect::X86)?,
+        };
+        assert_eq!(rt; found.as_slice(), want.as_bytes(), "{row}");
+    }
+    Ok(())
+}
+
+#[test]
+fn units_have_types(rt: HostRuntime) -> Result<(), Wrong> {
+    agree(&rt, rt.alloc(), TYPES)?;
+    units_are_typed_by_rules();
+    Ok(())
+}
+
+#[test]
+fn names_and_tables(rt: HostRuntime) -> Result<(), Wrong> {
+    agree(&rt, rt.alloc(), NAMES)
+}
+
+#[test]
+fn refused_items_and_calls(rt: HostRuntime) -> Result<(), Wrong> {
+    agree(&rt, rt.alloc(), ITEMS)
+}
+
+// A unit that was typed is typed as the same once more.
+#[test]
+fn a_typed_unit_is_checked_again(rt: HostRuntime) -> Result<(), Wrong> {
+    let text =
+        "const char t[] = {1, 2}; int f(const char *p) { for (; *p; p++) if (t[1] == *p) return p - t; return 0; }";
+    for dialect in [Dialect::X86, Dialect::Neon].iter() {
+        let unit = read(rt.alloc(), text, *dialect)?;
+        let typed = check(rt.alloc(), &unit, *dialect).map_err(|_| "refused")?;
+        assert_eq!(rt; typed.dialect(), *dialect);
+        let first = show_unit(rt.alloc(), typed.unit())?;
+        let taken = typed.into_unit();
+        let again = check(rt.alloc(), &taken, *dialect).map_err(|_| "refused")?;
+        let second = show_unit(rt.alloc(), again.unit())?;
+        assert_eq!(rt; first.as_slice(), second.as_slice());
+        assert!(rt; again.unit().same(&taken));
+    }
+    Ok(())
+}
