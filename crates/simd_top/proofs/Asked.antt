@@ -3,7 +3,7 @@ use Rattle.std.proofs.Common.{◌≡◌, ℕ, List, [], ◌∷◌, length, map, 
 use Rattle.std.proofs.lemmas.Bool.{eqb-true}
 use Rattle.std.specs.Str.{bytes_eq}
 use Rattle.simd_top.specs.TopCall.{AskToMigrate}
-use Rattle.simd_top.proofs.Words.{bytes_same, same_bytes}
+use Rattle.std.proofs.lemmas.Slice.Eq.{bytes_eq-Decides}
 
 none_left : (others : List (String Global)) → true ≡ (length others == 0) → others ≡ []
 none_left [] e = refl
@@ -15,4 +15,4 @@ asked words others word text r split none shown tested =
     let alone : words ≡ word ∷ [] = split ∙ ap (λ ws. word ∷ ws) (none_left others none) in
     let test : r ≡ bytes_eq (string_bytes word) (codes "migrate") = tested ∙ ap (λ t. bytes_eq t (codes "migrate")) shown in
     subst (λ ws. IsTrue r ↔ AskToMigrate (map (λ w. string_bytes w) ws)) (sym alone)
-    ((λ h. bytes_same (string_bytes word) (codes "migrate") (sym test ∙ h)), (λ h. test ∙ same_bytes (string_bytes word) (codes "migrate") h))
+    ((λ h. (bytes_eq-Decides (string_bytes word) (codes "migrate")).0 (sym test ∙ h)), (λ h. test ∙ (bytes_eq-Decides (string_bytes word) (codes "migrate")).1 h))

@@ -1,36 +1,32 @@
--- Which sources are refused.
-use Rattle.std.proofs.Common.{◌≡◌, ◌≤◌, ℕ, List, length, Option, Some, None, Result, Ok, Err, IfOk, Vec, Global, arith}
-use Rattle.std.specs.Prelude.{position}
-use Rattle.std.specs.declared.alloc.AllocError.{AllocError}
-use Rattle.simd_top.specs.Reading.{written_for}
-use Rattle.simd_top.specs.Refusals.{source_limit, is_bad, bad_byte_line, IsSyntaxLine, IsNoUnit, IsRefused, IsAdmitted, TooLong, BadByte, Syntax}
-use Rattle.simd_top.specs.TopCall.{Admits, Refuses}
-use Rattle.simd_top.proofs.Fine.{unit_no_bad}
-use Rattle.simd_top.proofs.Whole.{written_complete, apart}
+-- Why sources are refused.
+use Rattle.std.proofs.Common.{◌≡◌, ℕ, List, [], Some, None, Result, Ok, Err, IfErr, sym, ◌∙◌, ap, subst}
+use Rattle.c_text.specs.declared.tokens.Dialect.TheVariants.{X86}
+use Rattle.c_text.specs.declared.tokens.Token.{Token}
+use Rattle.c_text.specs.declared.refusals.Fail.{Fail}
+use Rattle.c_text.specs.declared.refusals.Fail.TheVariants as fails
+use Rattle.c_text.specs.Tokens.{Tokens}
+use Rattle.c_preproc.specs.Scan.{IfRefused, refusal_of, first_refusal}
+use Rattle.c_parse.specs.Items.{IsUnit}
+use Rattle.c_parse.specs.Limits.{first_past}
+use Rattle.c_tree.specs.Tree.{External}
+use Rattle.simd_top.specs.Includes.{behind_includes, first_hash}
+use Rattle.simd_top.specs.Form.{first_outside}
+use Rattle.simd_top.specs.Source.{AreRefused, Directive, Outside, IsFirst, Behind}
 
--- what isn't read is no unit
-pub unread : (source : List ℕ) → written_for source ≡ None → IsNoUnit source
-unread source none = λ fs is. apart _ _ none (written_complete source fs is)
+pub directive_refused : (e : Fail) (ts rest : List Token) (t : Token) → rest ≡ behind_includes ts → Some t ≡ first_hash rest → IfRefused e (λ r. r ≡ refusal_of 9 t) → IfRefused e (AreRefused ts)
+directive_refused (fails.Refused r) ts rest t same found is = Directive t (ap first_hash (sym same) ∙ sym found) is
+directive_refused fails.Memory ts rest t same found is = tt
 
-pub bad_named : (source : List ℕ) (i : ℕ) (r : Result (Vec ℕ Global) AllocError) → length source ≤ source_limit → position is_bad source ≡ Some i →
-    IfOk r (λ line. line.items ≡ bad_byte_line source i) → IfOk r (λ line. IsRefused source line.items)
-bad_named source i (Ok line) within first is = BadByte within i first is
-bad_named source i (Err e) within first is = tt
+pub outside_refused : {A : Type 0} (res : Result A Fail) (ts rest : List Token) (u : List External) → rest ≡ behind_includes ts → first_hash (behind_includes ts) ≡ None →
+    first_refusal X86 rest ≡ None → IsUnit X86 rest u → first_past 0 u ≡ None →
+    IfErr res (λ e. IfRefused e (λ r. first_outside [] u ≡ Some r)) → IfErr res (λ e. IfRefused e (AreRefused ts))
+outside_refused (Ok a) ts rest u same hash scanned is within h = tt
+outside_refused (Err fails.Memory) ts rest u same hash scanned is within h = tt
+outside_refused (Err (fails.Refused r)) ts rest u same hash scanned is within h =
+    Outside hash (ap (first_refusal X86) (sym same) ∙ scanned) u (subst (λ x. IsUnit X86 x u) same is) within h
 
-pub no_form : (source : List ℕ) (r : Result (Vec ℕ Global) AllocError) → length source ≤ source_limit → position is_bad source ≡ None → written_for source ≡ None →
-    IfOk r (λ line. IsSyntaxLine line.items) → IfOk r (λ line. IsRefused source line.items)
-no_form source (Ok line) within fine none is = Syntax within fine (unread source none) is
-no_form source (Err e) within fine none is = tt
-
-apart_index : (o : Option ℕ) (i : ℕ) → o ≡ None → o ≡ Some i → ⊥
-apart_index o i e h = cc
-
--- an admitted unit isn't refused
-not_refused : (source line : List ℕ) → IsAdmitted source → IsRefused source line → ⊥
-not_refused source line is (TooLong long _) = let within = is.within in omega (arith, long, within)
-not_refused source line is (BadByte within i bad _) = apart_index _ i (unit_no_bad source is.functions is.is_unit) bad
-not_refused source line is (Syntax within fine none _) = none is.functions is.is_unit
-
-pub admitted_stays : (before : Option (List ℕ)) (line : List ℕ) → Admits before → Refuses before line → ⊥
-admitted_stays None line is refused = is
-admitted_stays (Some source) line is refused = not_refused source line is refused
+pub behind_refused : {A : Type 0} (res : Result A Fail) (source : List ℕ) (ts seen : List Token) → Tokens source ts → seen ≡ ts →
+    IfErr res (λ e. IfRefused e (AreRefused seen)) → IfErr res (λ e. IfRefused e (IsFirst source))
+behind_refused (Ok a) source ts seen found same h = tt
+behind_refused (Err fails.Memory) source ts seen found same h = tt
+behind_refused (Err (fails.Refused r)) source ts seen found same h = Behind ts found (subst (λ x. AreRefused x r) same h)

@@ -1,175 +1,132 @@
--- The first form of a unit, in either dialect: which bytes are one, and of which functions.
-use Rattle.std.specs.Prelude.{◌≡◌, ℕ, ◌+◌, ◌≤◌, max, List, [], ◌∷◌, ◌++◌, length, map, Bool, true, false, ◌&&◌, ◌||◌, nat_le, ◌==◌, ◌⊎◌, codes}
+-- The first form of a unit, in the x86 dialect: functions of registers that return a nest of rows.
+use Rattle.std.specs.Prelude.{◌≡◌, ℕ, List, [], ◌∷◌, ◌++◌, Bool, true, false, ◌&&◌, not, if◌then◌else◌, Option, Some, None, is_some, is_none, take, map}
 use Rattle.std.specs.List.{list_any}
-use Rattle.std.specs.Str.{bytes_eq}
-
--- An expression: a parameter by its name, or a row of two expressions.
-pub data Tree (Op : Type 0) : Type 0 where
-  Name : List ℕ → Tree Op
-  Row : Op → Tree Op → Tree Op → Tree Op
-
--- A function of registers: its name, the names of its parameters in order, and what it returns.
-pub record Function (Op : Type 0) : Type 0 where
-  pub name : List ℕ
-  pub parameters : List (List ℕ)
-  pub body : Tree Op
-
--- The words of a dialect: the type of a register of 16 bytes, and the name of each row.
-pub record Words (Op : Type 0) : Type 0 where
-  pub register : List ℕ
-  pub row : Op → List ℕ
-
--- space, tab, newline (a carriage return is a part of one, or a space)
-abbrev pub is_blank : ℕ → Bool
-is_blank b = (b == 32) || ((b == 9) || ((b == 10) || (b == 13)))
-
-abbrev pub is_digit : ℕ → Bool
-is_digit b = nat_le 48 b && nat_le b 57
-
-abbrev pub is_lower : ℕ → Bool
-is_lower b = nat_le 97 b && nat_le b 122
-
-abbrev pub is_upper : ℕ → Bool
-is_upper b = nat_le 65 b && nat_le b 90
-
--- letters, digits and the underscore (C11 6.4.2.1)
-abbrev pub is_word_byte : ℕ → Bool
-is_word_byte b = is_lower b || (is_upper b || (is_digit b || (b == 95)))
-
--- each byte passes
-abbrev pub AllAre : (ℕ → Bool) → List ℕ → Type 0
-AllAre p [] = Unit {0}
-AllAre p (b ∷ bs) = (p b ≡ true) × AllAre p bs
+use Rattle.c_text.specs.declared.tokens.Dialect.TheVariants.{X86, Neon}
+use Rattle.c_text.specs.declared.tokens.Place.{Place}
+use Rattle.c_text.specs.declared.refusals.Refusal.{Refusal}
+use Rattle.c_text.specs.Forms.{is_name}
+use Rattle.c_tree.specs.declared.types.CType.{CType}
+use Rattle.c_tree.specs.declared.types.CType.TheVariants.{M128}
+use Rattle.c_tree.specs.Tree.{Tree, Kind, Trees, Node, Name, Call, NoTrees, More, Object, Statement, Statements, Return, NoStatements, Then, Definition, External, Function, Table}
+use Rattle.c_parse.specs.declared.symbols.Symbol.{Symbol}
+use Rattle.c_parse.specs.declared.symbols.Symbol.TheVariants as symbols
+use Rattle.c_parse.specs.Symbols.{name_symbol}
+use Rattle.object_types.specs.Reserved.{is_reserved}
+use Rattle.scopes.specs.Scopes.{same_name}
+use Rattle.simd_top.specs.Rows.{intel_row}
 
 -- one of the names is x
 abbrev pub is_in : List (List ℕ) → List ℕ → Bool
-is_in names x = list_any (λ y. bytes_eq y x) names
+is_in names x = list_any (λ y. same_name x y) names
 
--- each name differs from those that were seen and from those before it
-abbrev pub AreNew : List (List ℕ) → List (List ℕ) → Type 0
-AreNew seen [] = Unit {0}
-AreNew seen (x ∷ xs) = (is_in seen x ≡ false) × AreNew (seen ++ x ∷ []) xs
+-- what a word that is no keyword and no type is
+abbrev pub is_plain_name : Symbol → Bool
+is_plain_name symbols.Name = true
+is_plain_name s = false
 
--- no word goes on here
-abbrev pub WordEnds : List ℕ → Type 0
-WordEnds [] = Unit {0}
-WordEnds (b ∷ bs) = is_word_byte b ≡ false
+-- A name that both units may declare: one of C (C11 6.4.2.1) that is no word of the Neon dialect, and isn't reserved.
+abbrev pub is_free : List ℕ → Bool
+is_free x = is_name x && is_plain_name (name_symbol Neon x) && not (is_reserved X86 x)
 
--- The text is this word behind blanks, and then the rest, with which the word doesn't go on: so something stands
--- between two words.
-pub record IsWord (word text rest : List ℕ) : Type 0 where
-  pub blanks : List ℕ
-  pub blank : AllAre is_blank blanks
-  pub spelled : text ≡ blanks ++ (word ++ rest)
-  pub ends : WordEnds rest
+-- An expression: a parameter, or a row of two expressions.
+abbrev mutual
+  pub is_expression : List (List ℕ) → Tree → Bool
+  is_expression parameters (Node p ty k) = is_kind parameters k
 
--- The text is this byte behind blanks, and then the rest.
-pub record IsMark (mark : ℕ) (text rest : List ℕ) : Type 0 where
-  pub blanks : List ℕ
-  pub blank : AllAre is_blank blanks
-  pub spelled : text ≡ blanks ++ (mark ∷ rest)
+  pub is_kind : List (List ℕ) → Kind → Bool
+  is_kind parameters (Name x) = is_in parameters x
+  is_kind parameters (Call f operands) = is_some (intel_row f) && are_two operands && are_expressions parameters operands
+  is_kind parameters k = false
 
--- one lower-case letter followed by at most seven digits
-abbrev pub IsName : List ℕ → Type 0
-IsName [] = ⊥
-IsName (b ∷ bs) = (is_lower b ≡ true) × AllAre is_digit bs × (length bs ≤ 7)
+  pub are_expressions : List (List ℕ) → Trees → Bool
+  are_expressions parameters NoTrees = true
+  are_expressions parameters (More a rest) = is_expression parameters a && are_expressions parameters rest
 
--- how many calls are open at the deepest place
-abbrev pub depth : {Op : Type 0} → Tree Op → ℕ
-depth (Name x) = 0
-depth (Row op a b) = max (depth a) (depth b) + 1
+  pub are_two : Trees → Bool
+  are_two NoTrees = false
+  are_two (More a rest) = is_one rest
 
--- The text is the expression, and then the rest. Each name is a parameter's; a row's operands stand in brackets,
--- with a comma between them.
-abbrev pub IsExpression : {Op : Type 0} → Words Op → List (List ℕ) → Tree Op → List ℕ → List ℕ → Type 0
-IsExpression words parameters (Name x) text rest = (is_in parameters x ≡ true) × IsWord x text rest
-IsExpression words parameters (Row op a b) text rest =
-    (t1 : List ℕ) × (t2 : List ℕ) × (t3 : List ℕ) × (t4 : List ℕ) × (t5 : List ℕ) ×
-    IsWord (words.row op) text t1 × IsMark 40 t1 t2 × IsExpression words parameters a t2 t3 ×
-    IsMark 44 t3 t4 × IsExpression words parameters b t4 t5 × IsMark 41 t5 rest
+  pub is_one : Trees → Bool
+  is_one NoTrees = false
+  is_one (More a rest) = is_end rest
 
--- The text is a register of this name, and then the rest.
-pub record IsParameter (register name text rest : List ℕ) : Type 0 where
-  pub behind_type : List ℕ
-  pub type_stands : IsWord register text behind_type
-  pub name_stands : IsWord name behind_type rest
-  pub is_name : IsName name
+  pub is_end : Trees → Bool
+  is_end NoTrees = true
+  is_end (More a rest) = false
 
--- Each of the further parameters stands behind a comma.
-abbrev pub AreMore : List ℕ → List (List ℕ) → List ℕ → List ℕ → Type 0
-AreMore register [] text rest = text ≡ rest
-AreMore register (x ∷ xs) text rest =
-    (t1 : List ℕ) × (t2 : List ℕ) × IsMark 44 text t1 × IsParameter register x t1 t2 × AreMore register xs t2 rest
+-- a register of 16 bytes
+abbrev pub is_register : CType → Bool
+is_register M128 = true
+is_register ty = false
 
--- The text is these parameters, one or more, and then the rest.
-abbrev pub AreParameters : List ℕ → List (List ℕ) → List ℕ → List ℕ → Type 0
-AreParameters register [] text rest = ⊥
-AreParameters register (x ∷ xs) text rest = (t : List ℕ) × IsParameter register x text t × AreMore register xs t rest
+-- an object of this type, without `const`, a length, an alignment or a value
+abbrev pub is_plain : Object → Bool
+is_plain o = is_register o.ty && not o.constant && is_none o.length && is_none o.align && is_none o.init && is_none o.list
 
--- The text is the function's heading: its type, its name, and its parameters in brackets.
-pub record IsHeading (register name : List ℕ) (parameters : List (List ℕ)) (text rest : List ℕ) : Type 0 where
-  pub t1 : List ℕ
-  pub t2 : List ℕ
-  pub t3 : List ℕ
-  pub t4 : List ℕ
-  pub result : IsWord register text t1
-  pub named : IsWord name t1 t2
-  pub is_name : IsName name
-  pub opens : IsMark 40 t2 t3
-  pub declares : AreParameters register parameters t3 t4
-  pub differ : AreNew [] parameters
-  pub within : length parameters ≤ 127
-  pub closes : IsMark 41 t4 rest
+-- a parameter whose name is free, and differs from those that were seen
+abbrev pub is_parameter : List (List ℕ) → Object → Bool
+is_parameter seen o = is_plain o && is_free o.name && not (is_in seen o.name)
 
--- The text is the function's block: `{ return EXPRESSION; }`.
-pub record IsBlock {Op : Type 0} (words : Words Op) (parameters : List (List ℕ)) (body : Tree Op) (text rest : List ℕ) : Type 0 where
-  pub t1 : List ℕ
-  pub t2 : List ℕ
-  pub t3 : List ℕ
-  pub t4 : List ℕ
-  pub opens : IsMark 123 text t1
-  pub returns : IsWord (codes "return") t1 t2
-  pub value : IsExpression words parameters body t2 t3
-  pub within : depth body ≤ 63
-  pub ends : IsMark 59 t3 t4
-  pub closes : IsMark 125 t4 rest
+-- parameters of that kind, whose names differ from each other too
+abbrev pub are_parameters : List (List ℕ) → List Object → Bool
+are_parameters seen [] = true
+are_parameters seen (o ∷ os) = is_parameter seen o && are_parameters (seen ++ o.name ∷ []) os
 
--- The text is the function, and then the rest.
-pub record IsFunction {Op : Type 0} (words : Words Op) (f : Function Op) (text rest : List ℕ) : Type 0 where
-  pub between : List ℕ
-  pub heading : IsHeading words.register f.name f.parameters text between
-  pub block : IsBlock words f.parameters f.body between rest
+abbrev pub names_of : List Object → List (List ℕ)
+names_of os = map (λ o. o.name) os
 
--- The text is these functions, and blanks.
-abbrev pub AreFunctions : {Op : Type 0} → Words Op → List (Function Op) → List ℕ → Type 0
-AreFunctions words [] text = AllAre is_blank text
-AreFunctions words (f ∷ fs) text = (t : List ℕ) × IsFunction words f text t × AreFunctions words fs t
+-- the statement returns an expression
+abbrev pub returns_option : List (List ℕ) → Option Tree → Bool
+returns_option parameters None = false
+returns_option parameters (Some e) = is_expression parameters e
 
-abbrev pub names_of : {Op : Type 0} → List (Function Op) → List (List ℕ)
-names_of fs = map (λ f. f.name) fs
+abbrev pub returns : List (List ℕ) → Statement → Bool
+returns parameters (Return p e) = returns_option parameters e
+returns parameters s = false
 
--- The text is at most 4,096 functions, whose names differ, and blanks.
-pub record IsBody {Op : Type 0} (words : Words Op) (fs : List (Function Op)) (text : List ℕ) : Type 0 where
-  pub stand : AreFunctions words fs text
-  pub differ : AreNew [] (names_of fs)
-  pub within : length fs ≤ 4096
+abbrev pub are_none : Statements → Bool
+are_none NoStatements = true
+are_none (Then s rest) = false
 
--- a line ends here: at a line feed, at a carriage return and a line feed, or with the text
-abbrev pub LineEnds : List ℕ → Type 0
-LineEnds [] = Unit {0}
-LineEnds (b ∷ []) = b ≡ 10
-LineEnds (b ∷ c ∷ bs) = (b ≡ 10) ⊎ ((b ≡ 13) × (c ≡ 10))
+-- the body is one such statement
+abbrev pub is_body : List (List ℕ) → Statements → Bool
+is_body parameters NoStatements = false
+is_body parameters (Then s rest) = returns parameters s && are_none rest
 
--- the line that a source may begin with
-abbrev pub include_line : List ℕ
-include_line = codes "#include <emmintrin.h>"
+-- one parameter at least
+abbrev pub has_one : List Object → Bool
+has_one [] = false
+has_one (o ∷ os) = true
 
--- The text may begin with the include line; the rest stands behind it.
-abbrev pub MayInclude : List ℕ → List ℕ → Type 0
-MayInclude text rest = (text ≡ rest) ⊎ ((text ≡ include_line ++ rest) × LineEnds rest)
+-- a heading with a register as its result, without `static` and `inline`
+abbrev pub is_heading : Definition → Bool
+is_heading f = is_register f.result && not f.is_static && not f.is_inline && is_free f.name && has_one f.params
 
--- The text is a unit of these functions.
-pub record IsUnit {Op : Type 0} (words : Words Op) (fs : List (Function Op)) (text : List ℕ) : Type 0 where
-  pub body : List ℕ
-  pub first : MayInclude text body
-  pub functions : IsBody words fs body
+abbrev pub is_function : Definition → Bool
+is_function f = are_parameters [] f.params && is_heading f && is_body (names_of f.params) f.body
+
+-- an item of the first form, behind functions of these names
+abbrev pub is_item : List (List ℕ) → External → Bool
+is_item seen (Function f) = is_function f && not (is_in seen f.name)
+is_item seen (Table o is_static) = false
+
+abbrev pub item_name : External → List ℕ
+item_name (Function f) = f.name
+item_name (Table o is_static) = o.name
+
+abbrev pub item_place : External → Place
+item_place (Function f) = f.place
+item_place (Table o is_static) = o.place
+
+-- the refusal of an item that is outside the form: at its name
+abbrev pub outside : External → Refusal
+outside x = record { number = 9; place = item_place x; detail = take 255 (item_name x) }
+
+-- the first item that is outside the form, behind functions of these names
+abbrev pub first_outside : List (List ℕ) → List External → Option Refusal
+first_outside seen [] = None
+first_outside seen (x ∷ xs) = if is_item seen x then first_outside (seen ++ item_name x ∷ []) xs else Some (outside x)
+
+-- the unit is of the first form
+abbrev pub IsFirstForm : List External → Type 0
+IsFirstForm unit = first_outside [] unit ≡ None

@@ -1,8 +1,10 @@
 pub mod Codes
+pub mod Includes
+pub mod Rows
 pub mod Form
-pub mod Dialects
 pub mod Written
-pub mod Reading
+pub mod NameSets
+pub mod Source
+pub mod Meaning
 pub mod Migrated
-pub mod Refusals
 pub mod TopCall

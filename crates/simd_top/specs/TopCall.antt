@@ -1,13 +1,13 @@
 -- What the top call does, status by status. The source tells that it has left `before`, and what is left afterwards is
 -- `after`; the sinks hold `old`, and hold `new` afterwards.
-use Rattle.std.specs.Prelude.{◌≡◌, ◌≤◌, ℕ, List, [], ◌∷◌, length, Option, Some, None, ⊤, ◌⊎◌, codes}
+use Rattle.std.specs.Prelude.{◌≡◌, ◌≤◌, ℕ, List, [], ◌∷◌, length, Option, Some, None, ◌⊎◌, codes}
 use Rattle.mig_io.specs.Outside.{Rose, Grew, GrewInPart}
 use Rattle.simd_top.specs.declared.status.Status.{Status}
 use Rattle.simd_top.specs.declared.status.Status.TheVariants.{WriteFault}
 use Rattle.simd_top.specs.declared.top.Due.{Due}
 use Rattle.simd_top.specs.declared.top.Due.TheVariants.{Out, Report}
 use Rattle.simd_top.specs.Migrated.{Migrated}
-use Rattle.simd_top.specs.Refusals.{source_limit, IsRefused, IsAdmitted}
+use Rattle.simd_top.specs.Source.{source_limit, IsRefused, IsAdmitted}
 
 -- the words are `migrate`, alone
 abbrev pub AskToMigrate : List (List ℕ) → Type 0
@@ -17,15 +17,15 @@ AskToMigrate _ = ⊥
 abbrev pub usage_line : List ℕ
 usage_line = codes "usage: simdmove migrate [KIND=PRICE].. | profile | run x86|neon NAME TURNS ITEM.. | both NAME TURNS ITEM.. | sample K [migrate]\n"
 
--- The text is the source, migrated, where the source tells its bytes; all of them were read.
+-- The text is the source, migrated, and all of it was read; of a source that doesn't tell its bytes the text is some source, migrated.
 abbrev pub Writes : Option (List ℕ) → Option (List ℕ) → List ℕ → Type 0
 Writes (Some source) after text = (length source ≤ source_limit) × Migrated source text × (after ≡ Some [])
-Writes None after text = ⊤
+Writes None after text = (source : List ℕ) × (length source ≤ source_limit) × Migrated source text
 
--- The line says why the source is refused, where it tells its bytes.
+-- The line says why the source is refused; of a source that doesn't tell its bytes it says why some source is.
 abbrev pub Refuses : Option (List ℕ) → List ℕ → Type 0
 Refuses (Some source) line = IsRefused source line
-Refuses None line = ⊤
+Refuses None line = (source : List ℕ) × IsRefused source line
 
 -- The source tells its bytes, and they are a unit that is admitted.
 abbrev pub Admits : Option (List ℕ) → Type 0

@@ -1,58 +1,52 @@
--- What a unit of the first form is written as: its functions as Neon C, and their text.
-use Rattle.std.specs.Prelude.{ℕ, List, [], ◌∷◌, ◌++◌, codes}
+-- The Neon unit that is written for a unit of the first form.
+use Rattle.std.specs.Prelude.{ℕ, List, map, Option, Some, None, true}
+use Rattle.std.specs.Option.{option_map}
+use Rattle.lane_core.specs.declared.vector.NeonLane.TheVariants.{U8}
+use Rattle.c_tree.specs.declared.types.CType.{CType}
+use Rattle.c_tree.specs.declared.types.CType.TheVariants.{M128, Neon}
+use Rattle.c_tree.specs.Tree.{Tree, Kind, Trees, Node, Call, NoTrees, More, Object, Statement, Statements, Return, NoStatements, Then, Definition, External, Function, Table}
 use Rattle.intel_base.specs.declared.BaseOp.{BaseOp}
-use Rattle.intel_base.specs.declared.BaseOp.TheVariants.{AddEpi8, SubEpi8, AvgEpu8, MinEpu8, XorSi128}
-use Rattle.neon_lane.specs.declared.LaneOp.{LaneOp}
-use Rattle.neon_lane.specs.declared.LaneOp.TheVariants.{VaddqU8, VsubqU8, VrhaddqU8, VminqU8, VeorqU8}
-use Rattle.simd_top.specs.Form.{Tree, Name, Row, Function}
-use Rattle.simd_top.specs.Dialects.{neon_name}
+use Rattle.simd_top.specs.Rows.{intel_row, neon_name, moved_row}
 
--- the Neon row that stands for a row
-abbrev pub moved_row : BaseOp → LaneOp
-moved_row AddEpi8 = VaddqU8
-moved_row SubEpi8 = VsubqU8
-moved_row AvgEpu8 = VrhaddqU8
-moved_row MinEpu8 = VminqU8
-moved_row XorSi128 = VeorqU8
+-- `uint8x16_t` stands for `__m128i`
+abbrev pub moved_type : CType → CType
+moved_type M128 = Neon U8 true
+moved_type ty = ty
 
-abbrev pub moved_tree : Tree BaseOp → Tree LaneOp
-moved_tree (Name x) = Name x
-moved_tree (Row op a b) = Row (moved_row op) (moved_tree a) (moved_tree b)
+-- the call of a Neon row stands for that of a row
+abbrev pub moved_call : List ℕ → Option BaseOp → List ℕ
+moved_call f (Some op) = neon_name (moved_row op)
+moved_call f None = f
 
-abbrev pub moved : Function BaseOp → Function LaneOp
-moved f = record { name = f.name; parameters = f.parameters; body = moved_tree f.body }
+abbrev mutual
+  pub moved_tree : Tree → Tree
+  moved_tree (Node p ty k) = Node p ty (moved_kind k)
 
--- a comma has a space behind it
-abbrev pub expression_text : Tree LaneOp → List ℕ
-expression_text (Name x) = x
-expression_text (Row op a b) = neon_name op ++ codes "(" ++ expression_text a ++ codes ", " ++ expression_text b ++ codes ")"
+  pub moved_kind : Kind → Kind
+  moved_kind (Call f operands) = Call (moved_call f (intel_row f)) (moved_trees operands)
+  moved_kind k = k
 
-abbrev pub parameter_text : List ℕ → List ℕ
-parameter_text x = codes "uint8x16_t " ++ x
+  pub moved_trees : Trees → Trees
+  moved_trees NoTrees = NoTrees
+  moved_trees (More a rest) = More (moved_tree a) (moved_trees rest)
 
--- the further parameters
-abbrev pub more_text : List (List ℕ) → List ℕ
-more_text [] = []
-more_text (x ∷ xs) = codes ", " ++ parameter_text x ++ more_text xs
+abbrev pub moved_object : Object → Object
+moved_object o = record o { ty = moved_type o.ty }
 
-abbrev pub parameters_text : List (List ℕ) → List ℕ
-parameters_text [] = []
-parameters_text (x ∷ xs) = parameter_text x ++ more_text xs
+abbrev pub moved_statement : Statement → Statement
+moved_statement (Return p e) = Return p (option_map moved_tree e)
+moved_statement s = s
 
--- behind an empty line: the heading, the statement on a line of its own, and the closing bracket
-abbrev pub function_text : Function LaneOp → List ℕ
-function_text f =
-    codes "\nuint8x16_t " ++ f.name ++ codes "(" ++ parameters_text f.parameters ++ codes ") {\n    return "
-    ++ expression_text f.body ++ codes ";\n}\n"
+abbrev pub moved_statements : Statements → Statements
+moved_statements NoStatements = NoStatements
+moved_statements (Then s rest) = Then (moved_statement s) (moved_statements rest)
 
-abbrev pub functions_text : List (Function LaneOp) → List ℕ
-functions_text [] = []
-functions_text (f ∷ fs) = function_text f ++ functions_text fs
+abbrev pub moved_function : Definition → Definition
+moved_function f = record f { result = moved_type f.result; params = map moved_object f.params; body = moved_statements f.body }
 
--- the lines that each written text begins with
-abbrev pub header : List ℕ
-header = codes "#include <arm_neon.h>\n#include <stddef.h>\n#include <stdint.h>\n"
+abbrev pub moved_item : External → External
+moved_item (Function f) = Function (moved_function f)
+moved_item (Table o is_static) = Table o is_static
 
--- the text of a unit
-abbrev pub unit_text : List (Function LaneOp) → List ℕ
-unit_text fs = header ++ functions_text fs
+abbrev pub moved_unit : List External → List External
+moved_unit unit = map moved_item unit

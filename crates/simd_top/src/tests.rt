@@ -56,11 +56,15 @@ fn migrated(alloc: Global, source: &[u8]) -> Result<Ended, AllocError> {
 }
 
 // Sources and what comes: the text behind the include lines, or the line of the report.
-const ROWS: [(&[u8], Status, &[u8]); 24] = [
+const ROWS: [(&[u8], Status, &[u8]); 27] = [
     (b"", Status::Done, b""),
     (b" \t\n", Status::Done, b""),
     (b"#include <emmintrin.h>", Status::Done, b""),
-    (b"#include <emmintrin.h>\r\n\n", Status::Done, b""),
+    (
+        b"#include <emmintrin.h>\r\n\n# include <stdint.h> // all\n",
+        Status::Done,
+        b"",
+    ),
     (
         b"__m128i f(__m128i a, __m128i b) { return _mm_xor_si128(_mm_avg_epu8(a, b), _mm_min_epu8(a, _mm_sub_epi8(b, a))); }\n",
         Status::Done,
@@ -72,87 +76,102 @@ const ROWS: [(&[u8], Status, &[u8]); 24] = [
         b"\nuint8x16_t f(uint8x16_t a, uint8x16_t b) {\n    return b;\n}\n\nuint8x16_t g1(uint8x16_t x) {\n    return vaddq_u8(x, x);\n}\n",
     ),
     (
-        b"__m128i a1234567(__m128i b7654321){return b7654321;}",
+        b"/* \xff */ __m128i F_(__m128i longer_name) { return (longer\\\n_name); }",
         Status::Done,
-        b"\nuint8x16_t a1234567(uint8x16_t b7654321) {\n    return b7654321;\n}\n",
+        b"\nuint8x16_t F_(uint8x16_t longer_name) {\n    return longer_name;\n}\n",
     ),
     (
-        b"__m128i a12345678(__m128i b){return b;}",
-        Status::Refused,
-        b"1:9: 9 Syntax a12345678\n",
+        b"__m128i f(__m128i a); ;\n__attribute__((target(\"avx2\"))) __m128i f(__m128i a) { return a; };",
+        Status::Done,
+        b"\nuint8x16_t f(uint8x16_t a) {\n    return a;\n}\n",
     ),
     (
-        b"__m128i F(__m128i b){return b;}",
-        Status::Refused,
-        b"1:9: 9 Syntax F\n",
-    ),
-    (
-        b"__m128if(__m128i b){return b;}",
-        Status::Refused,
-        b"1:1: 9 Syntax __m128if\n",
-    ),
-    (
-        b"__m128i f(__m128ib){return b;}",
-        Status::Refused,
-        b"1:11: 9 Syntax __m128ib\n",
-    ),
-    (
-        b"__m128i f(__m128i b){returnb;}",
-        Status::Refused,
-        b"1:22: 9 Syntax returnb\n",
-    ),
-    (
-        b"__m128i f(__m128i b){return c;}",
-        Status::Refused,
-        b"1:29: 9 Syntax c\n",
-    ),
-    (
-        b"__m128i f(__m128i b){return b}",
-        Status::Refused,
-        b"1:30: 9 Syntax }\n",
-    ),
-    (
-        b"__m128i f(__m128i b){return b;",
-        Status::Refused,
-        b"1:30: 9 Syntax end\n",
-    ),
-    (
-        b"__m128i f(){return b;}",
-        Status::Refused,
-        b"1:11: 9 Syntax )\n",
-    ),
-    (
-        b"__m128i f(__m128i b,){return b;}",
-        Status::Refused,
-        b"1:21: 9 Syntax )\n",
-    ),
-    (
-        b"__m128i f(__m128i b, __m128i b){return b;}",
-        Status::Refused,
-        b"1:22: 9 Syntax __m128i\n",
-    ),
-    (
-        b"__m128i f(__m128i b){return b;}\n__m128i f(__m128i b){return b;}",
-        Status::Refused,
-        b"2:1: 9 Syntax __m128i\n",
-    ),
-    (
-        b"\n#include <emmintrin.h>\n",
-        Status::Refused,
-        b"2:1: 9 Syntax #\n",
-    ),
-    (
-        b"#include <emmintrin.h> \n",
+        b"#include <math.h>\n",
         Status::Refused,
         b"1:1: 9 Syntax #\n",
+    ),
+    (
+        b"#include < stdint.h>\n",
+        Status::Refused,
+        b"1:1: 9 Syntax #\n",
+    ),
+    (
+        b"#include <stdint.h> 1.5\n",
+        Status::Refused,
+        b"1:1: 9 Syntax #\n",
+    ),
+    (b"1.5\n#define A 1\n", Status::Refused, b"2:1: 9 Syntax #\n"),
+    (
+        b"int f(void) { return 1.5; }\n",
+        Status::Refused,
+        b"1:22: 4 BadToken 1.5\n",
     ),
     (
         b"int f(void) { return 0; }\n\x01",
         Status::Refused,
         b"2:1: 2 BadByte 0x01\n",
     ),
-    (b"int \x7f\x80", Status::Refused, b"1:5: 2 BadByte 0x7f\n"),
-    (b"\x0b\x0c~", Status::Refused, b"1:1: 9 Syntax \x0b\n"),
+    (
+        b"int f(void) { return 0; } /* end",
+        Status::Refused,
+        b"1:27: 3 OpenComment /*\n",
+    ),
+    (
+        b"__m128 f(__m128 a) { return a; }\n",
+        Status::Refused,
+        b"1:1: 18 OutsideProfile __m128\n",
+    ),
+    (
+        b"int f(int x) { return ((((((((((((((((((((((((((((((((((((((((((((((((((((((((((((((((x)))))))))))))))))))))))))))))))))))))))))))))))))))))))))))))))); }",
+        Status::Refused,
+        b"1:86: 19 TooDeep (\n",
+    ),
+    (b"int f( {\n", Status::Refused, b"1:8: 9 Syntax {\n"),
+    (
+        b"int f(void) { return 0; }\n",
+        Status::Refused,
+        b"1:5: 9 Syntax f\n",
+    ),
+    (
+        b"__m128i f(__m128i b){return c;}",
+        Status::Refused,
+        b"1:9: 9 Syntax f\n",
+    ),
+    (
+        b"static __m128i f(__m128i b){return b;}",
+        Status::Refused,
+        b"1:16: 9 Syntax f\n",
+    ),
+    (
+        b"__m128i f(const __m128i b){return b;}",
+        Status::Refused,
+        b"1:9: 9 Syntax f\n",
+    ),
+    (
+        b"__m128i f(__m128i b, __m128i b){return b;}",
+        Status::Refused,
+        b"1:9: 9 Syntax f\n",
+    ),
+    (
+        b"__m128i f(__m128i b){return b;}\n__m128i f(__m128i b){return b;}",
+        Status::Refused,
+        b"2:9: 9 Syntax f\n",
+    ),
+    (
+        b"__m128i mg_f(__m128i b){return b;}",
+        Status::Refused,
+        b"1:9: 9 Syntax mg_f\n",
+    ),
+    (
+        b"__m128i f(__m128i NULL){return NULL;}",
+        Status::Refused,
+        b"1:9: 9 Syntax f\n",
+    ),
+    (
+        b"__m128i vaddq_u8(__m128i b){return b;}",
+        Status::Refused,
+        b"1:9: 9 Syntax vaddq_u8\n",
+    ),
 ];
 
 #[test]

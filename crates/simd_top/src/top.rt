@@ -2,13 +2,19 @@
 
 ghost use Rattle.std.specs.Prelude.{◌≡◌, ◌≢◌, ◌≤◌, ◌⊎◌, ℕ, List, None, map, length, IfOk, IsErrOf, OnErr, Err, string_bytes, IsTrue, ◌↔◌};
 ghost use Rattle.mig_io.specs.Outside.{Rose, Grew};
-ghost use Rattle.simd_top.specs.Reading.{written_for};
-ghost use Rattle.simd_top.specs.Refusals.{source_limit, IsRefused};
+ghost use Rattle.simd_top.specs.Source.{source_limit, IsRefused};
+ghost use Rattle.simd_top.specs.Written.{moved_unit};
+ghost use Rattle.c_print.specs.Text.{text_of};
+ghost use Rattle.c_tree.specs.View.{view_unit};
 ghost use Rattle.simd_top.specs.TopCall.{AskToMigrate, usage_line, Writes, Refuses, Admits, IsDue, IsAnswer, Ends, Breaks};
 
-use crate::reading::{Fail, written};
-use crate::refusals::{bad_byte_line, first_bad, syntax_line, too_long_line};
+use crate::front::unit_of;
+use crate::moving::moved_unit;
+use crate::refusals::{line_of, too_long_line};
 use crate::status::Status;
+use c_print::print;
+use c_text::Fail;
+use c_tree::Unit;
 use mig_io::{ReadFail, Sink, Source, read_all, write_all};
 use std::alloc::{AllocError, Global};
 
@@ -34,16 +40,12 @@ fn asks_to_migrate(words: &[String]) -> bool
     }
 }
 
-// The line of a source that isn't in the first form from the place on that so many bytes are left from.
-fn refusal(alloc: Global, source: &[u8], left: usize) -> Result<Vec<u8>, AllocError>
-    requires within { length source.now ≤ source_limit }
-    requires unread { written_for source.now ≡ None }
-    ensures { IfOk result (λ line. IsRefused source.now line.items) }
+// The text of the Neon unit that is written for a unit.
+fn written(alloc: Global, unit: &Unit) -> Result<Vec<u8>, AllocError>
+    ensures { IfOk result (λ text. text.items ≡ text_of (moved_unit (view_unit unit.now))) }
 {
-    match first_bad(source) {
-        Some(i) => bad_byte_line(alloc, source, i),
-        None => syntax_line(alloc, source, left),
-    }
+    let moved = moved_unit(alloc, unit)?;
+    print(alloc, &moved)
 }
 
 // What is due for the bytes of a source.
@@ -52,11 +54,14 @@ fn answer(alloc: Global, source: &[u8]) -> Result<Due, ReadFail>
     ensures due { IfOk result (λ due. IsAnswer source.now due) }
     ensures memory_alone { OnErr result (result ≡ Err ReadFail.Memory) }
 {
-    match written(alloc, source) {
-        Ok(text) => Ok(Due::Out(text)),
+    match unit_of(alloc, source) {
+        Ok(unit) => {
+            let text = written(alloc, &unit)?;
+            Ok(Due::Out(text))
+        }
         Err(Fail::Memory) => Err(ReadFail::Memory),
-        Err(Fail::Syntax(left)) => {
-            let line = refusal(alloc, source, left)?;
+        Err(Fail::Refused(refusal)) => {
+            let line = line_of(alloc, &refusal)?;
             Ok(Due::Report(line))
         }
     }

@@ -1,4 +1,4 @@
-use Rattle.simd_top.proofs.Refused.{admitted_stays}
+use Rattle.simd_top.proofs.Excluded.{admitted_stays}
 use Rattle.simd_top.proofs.top.simdmove.Goals as goal
 
 pub returns-in-Ok-Report-clause-admitted : goal.returns-in-Ok-Report-clause-admitted
