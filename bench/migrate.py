@@ -1,26 +1,31 @@
 #!/usr/bin/env python3
 """How long `simdmove migrate` takes beside `gcc -fsyntax-only` on the same file: run it at the top of the repository.
 
-It makes units of the first form of 150,000 and 600,000 bytes with deep expressions and prints the seconds of each (the least of five
-runs), how the tool's time grows (4 is linear), and the ratio to the compiler's front end.
+It makes units of the form that is migrated: many functions (1,024 and 4,096 of them, about 150,000 and 600,000 bytes), and fewer functions of
+63 open calls (of the same sizes). For each it prints the seconds of both (the least of five runs), the ratio to the compiler's front end, and how
+the tool's time grows (4 is linear). The compiler reads its own emmintrin.h, which costs it the time of the last line.
 """
 import os, subprocess, tempfile, time
 
-
-def unit(size):
-    nest = "_mm_add_epi8(" * 63 + "a" + ", b)" * 63
-    text, count = "", 0
-    while len(text) < size:
-        text += f"__m128i f{count}(__m128i a, __m128i b) {{ return {nest}; }}\n"
-        count += 1
-    return text
+INCLUDE = "#include <emmintrin.h>\n"
+PARAMETERS = "(__m128i a, __m128i b)"
+MANY = "__m128i lane_kernel_%d" + PARAMETERS + " { return _mm_add_epi8(_mm_xor_si128(a, b), _mm_min_epu8(_mm_avg_epu8(a, b), _mm_sub_epi8(b, a))); }\n"
+DEEP = "__m128i kernel_%d" + PARAMETERS + " { return " + "_mm_add_epi8(" * 63 + "a" + ", b)" * 63 + "; }\n"
 
 
-def seconds(command, path=None):
+def many(quarters):
+    return INCLUDE + "".join(MANY % i for i in range(1024 * quarters))
+
+
+def deep(quarters):
+    return INCLUDE + "".join(DEEP % i for i in range(135 * quarters))
+
+
+def seconds(command, path):
     best = None
     for _ in range(5):
         start = time.monotonic()
-        with open(path) if path else open(os.devnull) as file:
+        with open(path) as file:
             subprocess.run(command, stdin=file, stdout=subprocess.DEVNULL, check=True)
         took = time.monotonic() - start
         best = took if best is None else min(best, took)
@@ -29,17 +34,27 @@ def seconds(command, path=None):
 
 def main():
     top = os.path.dirname(os.path.dirname(os.path.abspath(__file__)))
-    tool = [os.path.join(top, "simdmove"), "migrate"]
+    script = os.path.join(top, "simdmove")
+    subprocess.run([script, "migrate"], stdin=subprocess.DEVNULL, stdout=subprocess.DEVNULL, check=True)
+    tool = [os.path.join(top, "crates", "simdmove", "out", "simdmove"), "migrate"]
     with tempfile.TemporaryDirectory() as folder:
-        took = {}
-        for size in (150000, 600000):
-            path = os.path.join(folder, f"unit{size}.c")
+        path = os.path.join(folder, "unit.c")
+        peer = ["gcc", "-msse2", "-fsyntax-only", path]
+
+        def measure(text):
             with open(path, "w") as file:
-                file.write(unit(size))
-            took[size] = seconds(tool, path)
-            peer = seconds(["gcc", "-msse2", "-include", "emmintrin.h", "-fsyntax-only", path])
-            print(f"{size} bytes: simdmove {took[size]:.3f} s, gcc -fsyntax-only {peer:.3f} s, ratio {took[size] / peer:.2f}")
-        print(f"growth of simdmove from a quarter: {took[600000] / took[150000]:.1f}")
+                file.write(text)
+            return len(text), seconds(tool, path), seconds(peer, path)
+
+        for name, make in (("many functions", many), ("deep functions", deep)):
+            took = []
+            for quarters in (1, 4):
+                size, own, other = measure(make(quarters))
+                took.append(own)
+                print(f"{name}, {size} bytes: simdmove {own:.3f} s, gcc -fsyntax-only {other:.3f} s, ratio {own / other:.2f}")
+            print(f"{name}: growth of simdmove from a quarter {took[1] / took[0]:.1f}")
+        _, own, other = measure(INCLUDE)
+        print(f"the include line alone: simdmove {own:.3f} s, gcc -fsyntax-only {other:.3f} s")
 
 
 if __name__ == "__main__":

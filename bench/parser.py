@@ -52,6 +52,7 @@ PROGRAMS = {
     + TAIL,
 }
 CRATES = ["c_text", "lane_core", "c_preproc", "c_tree", "c_parse", "c_print"]
+USES = {"cut": "c_text", "parse_and_print": "c_parse c_print c_text"}
 FUNCTION = b"""static inline int f%d(const uint8_t *p, size_t n) {
     int s = 0, t[4] = {1, 2, 3, 4};
     for (size_t i = 0; i < n; i++) {
@@ -68,22 +69,23 @@ TEXTS = {
 }
 
 
-def build(top, folder):
+def build(top, folder, crates, programs, uses):
+    """Builds the programs, each over the crates that `uses` names for it, and gives their places in turn."""
     shutil.copy(os.path.join(top, "HANDLES"), folder)
     with open(os.path.join(top, "crates.txt")) as file:
-        lines = [line for line in file if line.split(":")[0] in CRATES]
-    for name in CRATES:
+        lines = [line for line in file if line.split(":")[0] in crates]
+    for name in crates:
         shutil.copytree(os.path.join(top, "crates", name), os.path.join(folder, "crates", name), ignore=shutil.ignore_patterns("out"))
-    for name, source in PROGRAMS.items():
+    for name, source in programs.items():
         for part in ("src", "specs", "proofs"):
             os.makedirs(os.path.join(folder, "crates", name, part))
         open(os.path.join(folder, "crates", name, "specs", "Lib.antt"), "w").close()
         with open(os.path.join(folder, "crates", name, "src", "main.rt"), "w") as file:
             file.write(source)
-        lines.append(f"{name}: c_text\n" if name == "cut" else f"{name}: c_parse c_print c_text\n")
+        lines.append(f"{name}: {uses[name]}\n")
     with open(os.path.join(folder, "crates.txt"), "w") as file:
         file.writelines(lines)
-    for name in PROGRAMS:
+    for name in programs:
         crate = os.path.join(folder, "crates", name)
         built = subprocess.run(["rt", "run"], cwd=crate, stdin=subprocess.DEVNULL, capture_output=True, text=True)
         if built.returncode != 0:
@@ -103,15 +105,19 @@ def seconds(program, text):
     return best
 
 
+def compare(front, whole, texts):
+    """Prints how much longer the second program takes than the first, on a quarter of each text and on all of it."""
+    for name, make in texts.items():
+        quarter, all_of_it = make(150000), make(600000)
+        small = seconds(whole, quarter) - seconds(front, quarter)
+        large = seconds(whole, all_of_it) - seconds(front, all_of_it)
+        print(f"{name:10} {len(quarter)} bytes {small:.3f} s, {len(all_of_it)} bytes {large:.3f} s, ratio {large / small:.1f}")
+
+
 def main():
     top = os.path.dirname(os.path.dirname(os.path.abspath(__file__)))
     with tempfile.TemporaryDirectory() as folder:
-        cut, whole = build(top, folder)
-        for name, make in TEXTS.items():
-            quarter, all_of_it = make(150000), make(600000)
-            small = seconds(whole, quarter) - seconds(cut, quarter)
-            large = seconds(whole, all_of_it) - seconds(cut, all_of_it)
-            print(f"{name:10} {len(quarter)} bytes {small:.3f} s, {len(all_of_it)} bytes {large:.3f} s, ratio {large / small:.1f}")
+        compare(*build(top, folder, CRATES, PROGRAMS, USES), TEXTS)
 
 
 if __name__ == "__main__":
