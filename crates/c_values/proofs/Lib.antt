@@ -1,0 +1,6 @@
+pub mod BitsLemmas
+pub mod PlaceLemmas
+pub mod ByteLemmas
+pub mod BlockLemmas
+pub mod AccessLemmas
+pub mod RowLemmas

@@ -1,0 +1,4 @@
+pub mod Places
+pub mod ByteLists
+pub mod Accesses
+pub mod Results
