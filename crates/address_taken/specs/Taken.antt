@@ -1,14 +1,11 @@
 -- For each object that a function declares, whether its address is taken by what its scope has (C11 6.2.1p4, p7): truth values in the
 -- order of the declarators, in a tree that has a place for each statement.
-use Rattle.std.specs.Prelude.{ℕ, Bool, false, ◌||◌, List, [], ◌∷◌, map, option_map}
+use Rattle.std.specs.Prelude.{ℕ, Bool, false, ◌||◌, List, [], ◌∷◌, map}
 use Rattle.c_tree.specs.Tree.{Object, Statement, Statements, Optional, Declare, Block, If, While, DoWhile, For, Absent, Present, NoStatements, Then, Definition}
-use Rattle.c_tree.specs.View.{view, view_stmt, view_stmts}
 use Rattle.address_taken.specs.Addressed.{takes_optional, takes_declared, takes_statement, takes_statements}
 use Rattle.address_taken.specs.declared.taken.Taken.{Taken, fold-Taken}
 use Rattle.address_taken.specs.declared.taken.Taken.TheOpen.{Taken-F}
 use Rattle.address_taken.specs.declared.taken.FunctionTaken.{FunctionTaken as CodeTaken}
-use Rattle.address_taken.specs.declared.taken.Later.{Later as CodeLater}
-use Rattle.address_taken.specs.declared.taken.Later.TheVariants.{Nothing as Nowhere, Statements as FollowedBy, Loop as InLoop}
 
 -- of a statement: nothing, one truth value for each declarator, or what its parts have; and of statements in a row
 mutual
@@ -84,9 +81,3 @@ seen_all all = and_parts (map seen all) NoParts
 
 abbrev pub seen_function : CodeTaken → FunctionTaken
 seen_function t = record { params = t.params.items; body = seen_all t.body.items }
-
--- what follows a declaration
-abbrev pub later_of : CodeLater → Later
-later_of Nowhere = no_more
-later_of (FollowedBy rest) = λ x. takes_statements x (view_stmts rest.now)
-later_of (InLoop c n s) = λ x. takes_optional x (option_map view c.now) || (takes_optional x (option_map view n.now) || takes_statement x (view_stmt s.now))

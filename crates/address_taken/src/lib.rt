@@ -1,6 +1,9 @@
 //! Which objects of a function have their address taken, by what their scopes have (C11 6.2.1).
 #![tactic(auto)]
 
+mod hiding;
+mod marking;
+mod names;
 mod taken;
 mod takes;
 #[cfg(test)]

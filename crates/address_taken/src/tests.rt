@@ -21,6 +21,9 @@ x {x,&x} -> F F(T.)
 x {&x,x} -> F T(.F)
 (x,&x) -> F (T.)
 x (x,&x) -> F F(T.)
+x {x} &x -> F T(F).
+x (x,x) &x -> F T(FF).
+p {p} &p -> F T(F).
 &p -> T .
 {p,&p} -> F (T.)";
 

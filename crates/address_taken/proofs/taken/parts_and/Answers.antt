@@ -1,4 +1,4 @@
-use Rattle.address_taken.proofs.Parts.{parts_and}
+use Rattle.address_taken.proofs.Walk.{parts_and}
 use Rattle.address_taken.proofs.taken.parts_and.Goals as goal
 
 pub returns : goal.returns
