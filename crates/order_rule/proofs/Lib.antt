@@ -1,0 +1,4 @@
+pub mod Noted
+pub mod Rules
+pub mod Scopes
+pub mod Sums

@@ -1,0 +1,7 @@
+pub mod Callees
+pub mod Full
+pub mod Memory
+pub mod Parts
+pub mod Reading
+pub mod Rule
+pub mod Writing

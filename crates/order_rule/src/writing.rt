@@ -1,0 +1,198 @@
+//! What an expression changes, and how often a name occurs in it.
+
+ghost use Rattle.std.specs.Prelude.{◌≡◌};
+ghost use Rattle.c_tree.specs.View.{view, view_kind, views};
+ghost use Rattle.address_taken.specs.Addressed.{is_name};
+ghost use Rattle.object_types.specs.Objects.{root};
+ghost use Rattle.scopes.specs.Scopes.{entries_of};
+ghost use Rattle.order_rule.specs.Memory.{env_of};
+ghost use Rattle.order_rule.specs.Writing.{occurrences, occurrences_in, occurrences_in_all, is_target, changes, changes_in, changes_in_all, in_memory, in_memory_by, writers, writers_in, writers_in_all};
+
+use crate::callees::{Effects, called};
+use crate::memory::Memory;
+use crate::times::{Times, once_if, sum};
+use c_tree::{Expr, ExprKind};
+use scopes::Names;
+
+/// The expression below the casts that aren't written.
+pub fn root(e: &Expr) -> &Expr
+    ensures { view result.now ≡ root (view e.now) }
+{
+    match &*e.kind {
+        ExprKind::Cast(_, a, false) => root(a),
+        _ => e,
+    }
+}
+
+/// How often the name occurs in the expression.
+#[cycle(occurrences)]
+pub fn occurrences(name: &[u8], e: &Expr) -> Times
+    ensures { result ≡ occurrences name.now (view e.now) }
+{
+    occurrences_in(name, &e.kind)
+}
+
+#[cycle(occurrences)]
+fn occurrences_in(name: &[u8], k: &ExprKind) -> Times
+    ensures { result ≡ occurrences_in name.now (view_kind k.now) }
+{
+    match k {
+        ExprKind::Name(x) | ExprKind::SizeOfName(x) => once_if(name == x.bytes()),
+        ExprKind::Unary(_, a) | ExprKind::Step(a, _, _) => occurrences(name, a),
+        ExprKind::Cast(_, a, _) | ExprKind::Deref(a) => occurrences(name, a),
+        ExprKind::Address(a) | ExprKind::Half(a, _) => occurrences(name, a),
+        ExprKind::Binary(_, a, b) | ExprKind::Assign(_, a, b) => sum(
+            occurrences(name, a),
+            occurrences(name, b),
+        ),
+        ExprKind::AndThen(a, b) | ExprKind::OrElse(a, b) => sum(
+            occurrences(name, a),
+            occurrences(name, b),
+        ),
+        ExprKind::Index(a, b) | ExprKind::PairOf(a, b) => sum(
+            occurrences(name, a),
+            occurrences(name, b),
+        ),
+        ExprKind::Choice(c, a, b) => sum(
+            occurrences(name, c),
+            sum(occurrences(name, a), occurrences(name, b)),
+        ),
+        ExprKind::Comma(all) | ExprKind::Call(_, all) => occurrences_in_all(name, all.as_slice()),
+        ExprKind::Const(_) | ExprKind::SizeOfType(_) | ExprKind::Str(_) => Times::Never,
+    }
+}
+
+#[cycle(occurrences)]
+fn occurrences_in_all(name: &[u8], all: &[Expr]) -> Times
+    ensures { result ≡ occurrences_in_all name.now (views all.now) }
+{
+    let mut total = Times::Never;
+    for e in all {
+        total = sum(total, occurrences(name, e));
+    }
+    total
+}
+
+/// Whether the object that is stepped or assigned is the variable of this name.
+pub fn is_target(name: &[u8], a: &Expr) -> bool
+    ensures { result ≡ is_target name.now (view a.now) }
+{
+    match &*root(a).kind {
+        ExprKind::Name(x) => name == x.bytes(),
+        _ => false,
+    }
+}
+
+/// Whether the expression steps or assigns the variable of this name.
+#[cycle(changes)]
+pub fn changes(name: &[u8], e: &Expr) -> bool
+    ensures { result ≡ changes name.now (view e.now) }
+{
+    changes_in(name, &e.kind)
+}
+
+#[cycle(changes)]
+fn changes_in(name: &[u8], k: &ExprKind) -> bool
+    ensures { result ≡ changes_in name.now (view_kind k.now) }
+{
+    match k {
+        ExprKind::Step(a, _, _) => is_target(name, a) || changes(name, a),
+        ExprKind::Assign(_, a, b) => is_target(name, a) || (changes(name, a) || changes(name, b)),
+        ExprKind::Unary(_, a) | ExprKind::Cast(_, a, _) => changes(name, a),
+        ExprKind::Deref(a) | ExprKind::Address(a) | ExprKind::Half(a, _) => changes(name, a),
+        ExprKind::Binary(_, a, b) | ExprKind::AndThen(a, b) => changes(name, a) || changes(name, b),
+        ExprKind::OrElse(a, b) | ExprKind::Index(a, b) => changes(name, a) || changes(name, b),
+        ExprKind::PairOf(a, b) => changes(name, a) || changes(name, b),
+        ExprKind::Choice(c, a, b) => changes(name, c) || (changes(name, a) || changes(name, b)),
+        ExprKind::Comma(all) | ExprKind::Call(_, all) => changes_in_all(name, all.as_slice()),
+        ExprKind::Const(_) | ExprKind::Name(_) | ExprKind::SizeOfType(_) => false,
+        ExprKind::SizeOfName(_) | ExprKind::Str(_) => false,
+    }
+}
+
+#[cycle(changes)]
+fn changes_in_all(name: &[u8], all: &[Expr]) -> bool
+    ensures { result ≡ changes_in_all name.now (views all.now) }
+{
+    for e in all {
+        if changes(name, e) {
+            return true;
+        }
+    }
+    false
+}
+
+/// Whether the expression designates an object in memory.
+#[cycle(in_memory)]
+pub fn in_memory(memory: &Memory, e: &Expr) -> bool
+    ensures { result ≡ in_memory (env_of memory.now) (view e.now) }
+{
+    in_memory_by(memory, &e.kind)
+}
+
+#[cycle(in_memory)]
+fn in_memory_by(memory: &Memory, k: &ExprKind) -> bool
+    ensures { result ≡ in_memory_by (env_of memory.now) (view_kind k.now) }
+{
+    match k {
+        ExprKind::Name(x) => memory.is_taken(x.bytes()),
+        ExprKind::Index(_, _) | ExprKind::Deref(_) => true,
+        ExprKind::Half(a, _) | ExprKind::Cast(_, a, false) => in_memory(memory, a),
+        _ => false,
+    }
+}
+
+/// How many writers the expression has.
+#[cycle(writers)]
+pub fn writers(memory: &Memory, callees: &Names<Effects>, e: &Expr) -> Times
+    ensures { result ≡ writers (env_of memory.now) (entries_of callees.now) (view e.now) }
+{
+    writers_in(memory, callees, &e.kind)
+}
+
+#[cycle(writers)]
+fn writers_in(memory: &Memory, callees: &Names<Effects>, k: &ExprKind) -> Times
+    ensures { result ≡ writers_in (env_of memory.now) (entries_of callees.now) (view_kind k.now) }
+{
+    match k {
+        ExprKind::Step(a, _, _) => sum(once_if(in_memory(memory, a)), writers(memory, callees, a)),
+        ExprKind::Assign(_, a, b) => sum(
+            once_if(in_memory(memory, a)),
+            sum(writers(memory, callees, a), writers(memory, callees, b)),
+        ),
+        ExprKind::Call(f, all) => sum(
+            once_if(called(f.bytes(), callees).stores),
+            writers_in_all(memory, callees, all.as_slice()),
+        ),
+        ExprKind::Comma(all) => writers_in_all(memory, callees, all.as_slice()),
+        ExprKind::Unary(_, a) | ExprKind::Cast(_, a, _) => writers(memory, callees, a),
+        ExprKind::Deref(a) | ExprKind::Address(a) | ExprKind::Half(a, _) => writers(
+            memory, callees, a,
+        ),
+        ExprKind::Binary(_, a, b) | ExprKind::AndThen(a, b) | ExprKind::OrElse(a, b) => sum(
+            writers(memory, callees, a),
+            writers(memory, callees, b),
+        ),
+        ExprKind::Index(a, b) | ExprKind::PairOf(a, b) => sum(
+            writers(memory, callees, a),
+            writers(memory, callees, b),
+        ),
+        ExprKind::Choice(c, a, b) => sum(
+            writers(memory, callees, c),
+            sum(writers(memory, callees, a), writers(memory, callees, b)),
+        ),
+        ExprKind::Const(_) | ExprKind::Name(_) | ExprKind::SizeOfType(_) => Times::Never,
+        ExprKind::SizeOfName(_) | ExprKind::Str(_) => Times::Never,
+    }
+}
+
+#[cycle(writers)]
+fn writers_in_all(memory: &Memory, callees: &Names<Effects>, all: &[Expr]) -> Times
+    ensures { result ≡ writers_in_all (env_of memory.now) (entries_of callees.now) (views all.now) }
+{
+    let mut total = Times::Never;
+    for e in all {
+        total = sum(total, writers(memory, callees, e));
+    }
+    total
+}
