@@ -1,12 +1,10 @@
 -- What the rules type passes the check.
-use Rattle.std.proofs.Common.{◌≡◌, ◌∙◌, ◌↔◌, ℕ, ◌<◌, ◌≤◌, Bool, true, false, not, ◌&&◌, ◌||◌, if◌then◌else◌, is_some, nat_lt, List, [], ◌∷◌, Option, Some, None, Ok, Err, refl, sym, ap, subst, arith}
+use Rattle.std.proofs.Common.{◌≡◌, ◌↔◌, ℕ, ◌<◌, Bool, true, false, not, ◌||◌, if◌then◌else◌, is_some, nat_lt, List, [], ◌∷◌, Option, Some, None, Ok, refl, sym, ap, subst}
 use Rattle.std.proofs.lemmas.Bool.{ltb-true}
 use Rattle.c_text.specs.declared.tokens.Place.{Place}
 use Rattle.c_text.specs.declared.refusals.Refusal.{Refusal}
 use Rattle.lane_core.specs.declared.number.IntType.{IntType}
-use Rattle.lane_core.specs.declared.number.Num.{Num}
 use Rattle.lane_core.specs.declared.vector.Pointee.TheVariants as target
-use Rattle.const_imm.specs.Constant.{value_of}
 use Rattle.c_tree.specs.declared.types.CType.{CType}
 use Rattle.c_tree.specs.declared.types.CType.TheVariants.{Void, Int, M128, M256, Neon, Pair, Pointer, Array}
 use Rattle.c_tree.specs.Tree as tree
@@ -15,17 +13,22 @@ use Rattle.c_tree.specs.Same.{unnumbered}
 use Rattle.type_rules.specs.Types.{node_type, read_type, is_void_pointer, is_integer, is_zero, is_assignable, converted, assigned}
 use Rattle.type_rules.specs.Rules.{Assigned}
 use Rattle.scopes.specs.Scopes.{Env, Callee, named, with_object}
-use Rattle.expression_types.specs.Check.{◌>>=◌, Checked, refuse, check}
+use Rattle.expression_types.specs.Check.{◌>>=◌, check}
 use Rattle.expression_types.specs.Typed.{IsArray, IsVoidPointer, Typed}
 use Rattle.expression_types.proofs.Sound.{after}
-use Rattle.object_types.specs.Objects.{Length, is_array, known, stands_before, alignment, aligned, small_once, is_open, new_name, length_of, member, with_number, declared_type, behind_declarator, behind_name, check_object}
+use Rattle.object_types.specs.Objects.{is_array, known, stands_before, alignment, aligned, small_once, is_open, new_name, length_of, member, with_number, declared_type, behind_declarator, check_object}
 use Rattle.object_types.specs.Typed as object
 use Rattle.object_types.specs.Typed.{TypedMember, TypedObject}
 use Rattle.statement_types.specs.Statements.{Around, with_objects, around, check_statements}
 use Rattle.statement_types.specs.Typed.{TypedStatements}
-use Rattle.vector_types.specs.Functions.{is_before, is_taken, function_name, is_bare, check_parameter, check_parameters, in_function, check_function}
-use Rattle.vector_types.specs.Tables.{is_table_type, is_table, fits_file, table_name, judged_alignment, scalar_value, constant_value, check_table}
-use Rattle.vector_types.specs.Units.{item_checked, beyond_item, next_item, Judged, and_judged, check_items, unit_env, unless_refused, answer, check_unit}
+use Rattle.order_rule.specs.Callees.{Callees}
+use Rattle.order_rule.specs.Full.{effects_of, order_of}
+use Rattle.order_rule.specs.Rule.{KeepsOrder}
+use Rattle.vector_types.specs.Order.{with_callee, Orderly}
+use Rattle.vector_types.specs.Functions.{is_before, is_taken, function_name, is_bare, check_parameters, in_function, check_function}
+use Rattle.vector_types.specs.Tables.{is_table_type, table_name, judged_alignment, constant_value, check_table}
+use Rattle.vector_types.specs.Units.{function_checked, next_item, Judged, and_judged, check_items, unless_refused, answer}
+use Rattle.vector_types.proofs.InOrder.{order-holds}
 use Rattle.vector_types.specs.Typed as t
 use Rattle.vector_types.specs.Typed.{MayDefine, IsParameter, TypedParameters, TypedFunction, IsTableType, TypedTable, TypedItems, TypedUnit}
 
@@ -106,7 +109,8 @@ alignment-judged false (Some x) a z env inner h k =
     (refl, rw g refl)
 
 module _ (types : (env : Env) (u v : Tree) → (check u env ≡ Ok v) ↔ Typed env u v) (gives : (u : CType) (a v : Tree) → (assigned u a ≡ Some v) ↔ Assigned a u v)
-    (objects : (env : Env) (d v : Object) → (check_object d env ≡ Ok v) ↔ TypedObject env d v) (statements : (c : Around) (all vs : Statements) → (check_statements all c ≡ Ok vs) ↔ TypedStatements c all vs) where
+    (objects : (env : Env) (d v : Object) → (check_object d env ≡ Ok v) ↔ TypedObject env d v) (statements : (c : Around) (all vs : Statements) → (check_statements all c ≡ Ok vs) ↔ TypedStatements c all vs)
+    (order : (callees : Callees) (f : Definition) → (order_of f callees ≡ None) ↔ KeepsOrder callees f) where
   parameters-pass : (env : Env) (all v : List Object) → TypedParameters env all v → check_parameters all env ≡ Ok v
   parameters-pass env all v (t.no_parameter e) = refl
   parameters-pass env all v (t.one_parameter e d x rest more b o r) =
@@ -179,13 +183,22 @@ module _ (types : (env : Env) (u v : Tree) → (check u env ≡ Ok v) ↔ Typed 
       by [] e h = let same : j.items ≡ more = cc in rw e (ap (λ l. unless_refused [] (g ∷ l)) same)
       by (r ∷ rs) e h = cc
 
-  pub items-pass : (env : Env) (u v : List External) → TypedItems env u v → answer (check_items u env) ≡ Ok v
-  items-pass env u v (t.no_item e) = refl
-  items-pass env u v (t.one_function e f g rest more x y) =
-      let passes = function-passes e f g x in
-      let others = items-pass (next_item e) rest more y in
-      rw passes (judged-holds _ (tree.Function g) more others)
-  items-pass env u v (t.one_table e d w is_static rest more x y) =
+  function-judged : (env : Env) (callees : Callees) (f g : Definition) (rest more : List External) → function_checked f env callees ≡ Ok g →
+      answer (check_items rest (next_item env) (with_callee env.dialect f.name (effects_of g callees) callees)) ≡ Ok more → answer (check_items (tree.Function f ∷ rest) env callees) ≡ Ok (tree.Function g ∷ more)
+  function-judged env callees f g rest more passes others = rw passes (judged-holds _ (tree.Function g) more others)
+
+  function-holds : (env : Env) (callees : Callees) (f g : Definition) → TypedFunction env f g → Orderly env.dialect callees g → function_checked f env callees ≡ Ok g
+  function-holds env callees f g x k =
+      let passes = function-passes env f g x in
+      rw passes (order-holds order env.dialect callees g k)
+
+  pub items-pass : (env : Env) (callees : Callees) (u v : List External) → TypedItems env callees u v → answer (check_items u env callees) ≡ Ok v
+  items-pass env callees u v (t.no_item e n) = refl
+  items-pass env callees u v (t.one_function e n f g rest more x k y) =
+      let passes = function-holds e n f g x k in
+      let others = items-pass (next_item e) (with_callee e.dialect f.name (effects_of g n) n) rest more y in
+      function-judged e n f g rest more passes others
+  items-pass env callees u v (t.one_table e n d w is_static rest more x y) =
       let passes = table-passes e d w x in
-      let others = items-pass (next_item (with_object w.name (known w.constant w.ty) e)) rest more y in
+      let others = items-pass (next_item (with_object w.name (known w.constant w.ty) e)) n rest more y in
       rw passes (judged-holds _ (tree.Table w is_static) more others)

@@ -8,10 +8,10 @@ use Rattle.c_tree.specs.View.{view_item}
 use Rattle.scopes.specs.Scopes.{Env, with_object}
 use Rattle.scopes.specs.Kept.{at_file, OnAnswer}
 use Rattle.expression_types.specs.Check.{Checked}
-use Rattle.object_types.specs.Objects.{known}
+use Rattle.order_rule.specs.Callees.{Callees}
 use Rattle.vector_types.specs.Functions.{is_taken}
 use Rattle.vector_types.specs.Tables.{check_table, refused_object, beyond_table}
-use Rattle.vector_types.specs.Units.{Judged, and_judged, item_checked, beyond_item, next_item, check_items}
+use Rattle.vector_types.specs.Units.{Judged, and_judged, item_checked, beyond_item, callees_beyond, next_item, check_items}
 use Rattle.vector_types.specs.Answers.{nothing_judged, behind, is_answer}
 
 append-one : {A : Type 0} (xs ys : List A) (x : A) → (xs ++ x ∷ []) ++ ys ≡ xs ++ x ∷ ys
@@ -26,10 +26,11 @@ judged_behind : (front : Judged) (x : Checked External) (j : Judged) → behind 
 judged_behind front (Ok v) j = rw (append-nil front.refusals, append-one front.items j.items v) refl
 judged_behind front (Err r) j = rw (append-nil front.items, append-one front.refusals j.refusals r) refl
 
-pub one_more_judged : (w front front' : Judged) (all rest : List Item) (u : Item) (env env' : Env) → w ≡ behind front (check_items (map view_item all) env) → all ≡ u ∷ rest →
-    front' ≡ behind front (and_judged (item_checked (view_item u) env) nothing_judged) → env' ≡ next_item (beyond_item (view_item u) env) → w ≡ behind front' (check_items (map view_item rest) env')
-one_more_judged w front front' all rest u env env' goes here grown e =
-    rw (grown, e, judged_behind front (item_checked (view_item u) env) (check_items (map view_item rest) (next_item (beyond_item (view_item u) env)))) (goes ∙ rw here refl)
+pub one_more_judged : (w front front' : Judged) (all rest : List Item) (u : Item) (env env' : Env) (callees callees' : Callees) → w ≡ behind front (check_items (map view_item all) env callees) → all ≡ u ∷ rest →
+    front' ≡ behind front (and_judged (item_checked (view_item u) env callees) nothing_judged) → env' ≡ next_item (beyond_item (view_item u) env) → callees' ≡ callees_beyond (view_item u) env callees →
+    w ≡ behind front' (check_items (map view_item rest) env' callees')
+one_more_judged w front front' all rest u env env' callees callees' goes here grown e c =
+    rw (grown, e, c, judged_behind front (item_checked (view_item u) env callees) (check_items (map view_item rest) (next_item (beyond_item (view_item u) env)) (callees_beyond (view_item u) env callees))) (goes ∙ rw here refl)
 
 -- the environment of the item that so many stand before
 abbrev pub at_item : ℕ → Env → Env

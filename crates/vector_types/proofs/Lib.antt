@@ -1,5 +1,6 @@
 pub mod Complete
 pub mod InFunction
+pub mod InOrder
 pub mod Judging
 pub mod Lists
 pub mod Sound

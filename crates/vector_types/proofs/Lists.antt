@@ -1,5 +1,5 @@
 -- Lists of expressions, of functions and of parameters.
-use Rattle.std.proofs.Common.{◌≡◌, ◌∙◌, ℕ, ◌+◌, Bool, true, false, List, [], ◌∷◌, ◌++◌, map, length, Option, Some, None, is_some, Result, Ok, Err, OnOk, Vec, refl, sym, ap, arith}
+use Rattle.std.proofs.Common.{◌≡◌, ◌∙◌, ℕ, true, false, List, [], ◌∷◌, ◌++◌, map, length, Option, Some, None, is_some, Result, Ok, Err, OnOk, Vec, refl, sym, ap, arith}
 use Rattle.std.proofs.lemmas.List.{map-append}
 use Rattle.std.specs.declared.alloc.Global.{Global}
 use Rattle.std.specs.Option.{option_map}
@@ -15,7 +15,7 @@ use Rattle.scopes.specs.Scopes.{Env, Callee, named, callee, entries_of, function
 use Rattle.scopes.proofs.Entries.{named_callee}
 use Rattle.expression_types.specs.Check.{◌>>=◌, Checked}
 use Rattle.object_types.specs.Objects.{known, count_all}
-use Rattle.vector_types.specs.Functions.{Functions, heading_of, with_function, check_parameter, check_parameters}
+use Rattle.vector_types.specs.Functions.{heading_of, with_function, check_parameter, check_parameters}
 
 -- as many as the list has
 pub members_counted : (xs : List Expr) → count_all (views xs) ≡ length xs

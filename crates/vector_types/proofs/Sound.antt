@@ -1,8 +1,7 @@
 -- A unit that passes the check is typed by the rules.
-use Rattle.std.proofs.Common.{◌≡◌, ◌∙◌, ◌↔◌, ℕ, ◌<◌, ◌≤◌, Bool, true, false, not, ◌&&◌, ◌||◌, if◌then◌else◌, is_some, List, [], ◌∷◌, Option, Some, None, Ok, Err, refl, sym, ap, subst, arith}
+use Rattle.std.proofs.Common.{◌≡◌, ◌∙◌, ◌↔◌, ℕ, ◌<◌, Bool, true, false, not, ◌&&◌, ◌||◌, if◌then◌else◌, is_some, List, [], ◌∷◌, Option, Some, None, Ok, Err, refl, ap, subst, arith}
 use Rattle.std.proofs.lemmas.Bool.{ltb-false}
 use Rattle.c_text.specs.declared.tokens.Place.{Place}
-use Rattle.c_text.specs.declared.tokens.Dialect.{Dialect}
 use Rattle.c_text.specs.declared.refusals.Refusal.{Refusal}
 use Rattle.lane_core.specs.declared.number.IntType.{IntType}
 use Rattle.lane_core.specs.declared.number.Num.{Num}
@@ -15,7 +14,7 @@ use Rattle.c_tree.specs.Tree.{Tree, Object, Statements, Definition, External}
 use Rattle.type_rules.specs.Types.{node_type, read_type, is_void_pointer, is_integer, is_zero, is_assignable, converted, assigned}
 use Rattle.type_rules.specs.Rules.{Assigned}
 use Rattle.scopes.specs.Scopes.{Env, Callee, named, is_declared_here, with_object}
-use Rattle.expression_types.specs.Check.{◌>>=◌, Checked, refuse, check}
+use Rattle.expression_types.specs.Check.{Checked, check}
 use Rattle.expression_types.specs.Typed.{IsArray, Typed}
 use Rattle.expression_types.proofs.Sound.{ok, after, becomes}
 use Rattle.object_types.specs.Reserved.{is_reserved}
@@ -25,9 +24,14 @@ use Rattle.object_types.specs.Typed.{TypedMember, TypedObject}
 use Rattle.object_types.proofs.ObjectTests.{both, unnegated, absent, void-pointer-says}
 use Rattle.statement_types.specs.Statements.{Around, with_objects, around, check_statements}
 use Rattle.statement_types.specs.Typed.{TypedStatements}
+use Rattle.order_rule.specs.Callees.{Callees}
+use Rattle.order_rule.specs.Full.{effects_of, order_of}
+use Rattle.order_rule.specs.Rule.{KeepsOrder}
+use Rattle.vector_types.specs.Order.{effects_given, with_callee, Orderly}
 use Rattle.vector_types.specs.Functions.{is_before, is_taken, function_name, is_bare, check_parameter, check_parameters, in_function, check_function}
 use Rattle.vector_types.specs.Tables.{is_table_type, is_table, fits_file, table_name, judged_alignment, scalar_value, constant_value, check_table, beyond_table}
-use Rattle.vector_types.specs.Units.{item_checked, beyond_item, next_item, Judged, and_judged, check_items, unit_env, unless_refused, answer, check_unit}
+use Rattle.vector_types.specs.Units.{function_checked, item_checked, beyond_item, next_item, Judged, and_judged, check_items, unless_refused, answer}
+use Rattle.vector_types.proofs.InOrder.{order-says}
 use Rattle.vector_types.specs.Typed as t
 use Rattle.vector_types.specs.Typed.{MayDefine, IsParameter, TypedParameters, TypedFunction, IsTableType, TypedTable, TypedItems, TypedUnit}
 
@@ -116,7 +120,8 @@ an_integer (Int s) h = (s, refl)
 an_integer _ h = cc
 
 module _ (types : (env : Env) (u v : Tree) → (check u env ≡ Ok v) ↔ Typed env u v) (gives : (u : CType) (a v : Tree) → (assigned u a ≡ Some v) ↔ Assigned a u v)
-    (objects : (env : Env) (d v : Object) → (check_object d env ≡ Ok v) ↔ TypedObject env d v) (statements : (c : Around) (all vs : Statements) → (check_statements all c ≡ Ok vs) ↔ TypedStatements c all vs) where
+    (objects : (env : Env) (d v : Object) → (check_object d env ≡ Ok v) ↔ TypedObject env d v) (statements : (c : Around) (all vs : Statements) → (check_statements all c ≡ Ok vs) ↔ TypedStatements c all vs)
+    (order : (callees : Callees) (f : Definition) → (order_of f callees ≡ None) ↔ KeepsOrder callees f) where
   parameters-typed : (all : List Object) (env : Env) (v : List Object) → check_parameters all env ≡ Ok v → TypedParameters env all v
   parameters-typed [] env v h = becomes (TypedParameters env []) [] v h (t.no_parameter env)
   parameters-typed (d ∷ rest) env v h =
@@ -183,19 +188,28 @@ module _ (types : (env : Env) (u v : Tree) → (check u env ≡ Ok v) ↔ Typed 
       by [] e h = let same : g ∷ j.items ≡ v = cc in (g, j.items, refl, ap (λ rs. unless_refused rs j.items) e, same)
       by (r ∷ rs) e h = cc
 
-  pub items-typed : (u : List External) (env : Env) (v : List External) → answer (check_items u env) ≡ Ok v → TypedItems env u v
-  items-typed [] env v h = let e : [] ≡ v = cc in subst (TypedItems env []) e (t.no_item env)
-  items-typed (tree.Function f ∷ rest) env v h =
-      let q = judged-says (item_checked (tree.Function f) env) _ v h in
-      let x = after (check_function f env) _ q.0 q.2 in
-      let others = items-typed rest (next_item env) q.1 q.3 in
+  function-says : (env : Env) (callees : Callees) (f g : Definition) → function_checked f env callees ≡ Ok g → TypedFunction env f g × Orderly env.dialect callees g
+  function-says env callees f g h =
+      let x = after (check_function f env) _ g h in
+      let q = order-says order env.dialect callees x.first g x.goes in
+      subst (λ y. TypedFunction env f y × Orderly env.dialect callees y) q.1 (function-typed env f x.first x.gives, q.0)
+
+  pub items-typed : (u : List External) (env : Env) (callees : Callees) (v : List External) → answer (check_items u env callees) ≡ Ok v → TypedItems env callees u v
+  items-typed [] env callees v h = let e : [] ≡ v = cc in subst (TypedItems env callees []) e (t.no_item env callees)
+  items-typed (tree.Function f ∷ rest) env callees v h =
+      let q = judged-says (item_checked (tree.Function f) env callees) _ v h in
+      let x = after (function_checked f env callees) _ q.0 q.2 in
+      let k = function-says env callees f x.first x.gives in
+      let passes : answer (check_items rest (next_item env) (with_callee env.dialect f.name (effects_of x.first callees) callees)) ≡ Ok q.1 =
+      subst (λ r. answer (check_items rest (next_item env) (with_callee env.dialect f.name (effects_given r callees) callees)) ≡ Ok q.1) x.gives q.3 in
+      let others = items-typed rest (next_item env) (with_callee env.dialect f.name (effects_of x.first callees) callees) q.1 passes in
       let same : tree.Function x.first ≡ q.0 = cc in
-      subst (TypedItems env (tree.Function f ∷ rest)) q.4 (subst (λ g. TypedItems env (tree.Function f ∷ rest) (g ∷ q.1)) same (t.one_function env f x.first rest q.1 (function-typed env f x.first x.gives) others))
-  items-typed (tree.Table d is_static ∷ rest) env v h =
-      let q = judged-says (item_checked (tree.Table d is_static) env) _ v h in
+      subst (TypedItems env callees (tree.Function f ∷ rest)) q.4 (subst (λ g. TypedItems env callees (tree.Function f ∷ rest) (g ∷ q.1)) same (t.one_function env callees f x.first rest q.1 k.0 k.1 others))
+  items-typed (tree.Table d is_static ∷ rest) env callees v h =
+      let q = judged-says (item_checked (tree.Table d is_static) env callees) _ v h in
       let x = after (check_table d env) _ q.0 q.2 in
       let behind : beyond_item (tree.Table d is_static) env ≡ with_object x.first.name (known x.first.constant x.first.ty) env = ap (λ r. beyond_table d r env) x.gives in
-      let passes : answer (check_items rest (next_item (with_object x.first.name (known x.first.constant x.first.ty) env))) ≡ Ok q.1 = subst (λ (e : Env). answer (check_items rest (next_item e)) ≡ Ok q.1) behind q.3 in
-      let others = items-typed rest (next_item (with_object x.first.name (known x.first.constant x.first.ty) env)) q.1 passes in
+      let passes : answer (check_items rest (next_item (with_object x.first.name (known x.first.constant x.first.ty) env)) callees) ≡ Ok q.1 = subst (λ (e : Env). answer (check_items rest (next_item e) callees) ≡ Ok q.1) behind q.3 in
+      let others = items-typed rest (next_item (with_object x.first.name (known x.first.constant x.first.ty) env)) callees q.1 passes in
       let same : tree.Table x.first is_static ≡ q.0 = cc in
-      subst (TypedItems env (tree.Table d is_static ∷ rest)) q.4 (subst (λ g. TypedItems env (tree.Table d is_static ∷ rest) (g ∷ q.1)) same (t.one_table env d x.first is_static rest q.1 (table-typed env d x.first x.gives) others))
+      subst (TypedItems env callees (tree.Table d is_static ∷ rest)) q.4 (subst (λ g. TypedItems env callees (tree.Table d is_static ∷ rest) (g ∷ q.1)) same (t.one_table env callees d x.first is_static rest q.1 (table-typed env d x.first x.gives) others))

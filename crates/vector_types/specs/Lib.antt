@@ -1,4 +1,5 @@
 pub mod Functions
+pub mod Order
 pub mod Tables
 pub mod Units
 pub mod Answers

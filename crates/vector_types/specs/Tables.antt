@@ -1,7 +1,6 @@
 -- The check of a table: a constant object at file scope (C11 6.9.2, 6.7.9).
-use Rattle.std.specs.Prelude.{ℕ, Bool, true, false, not, ◌&&◌, ◌||◌, is_some, if◌then◌else◌, List, Option, Some, None, option_map, Ok, Err}
+use Rattle.std.specs.Prelude.{ℕ, Bool, true, false, not, ◌&&◌, ◌||◌, is_some, if◌then◌else◌, Option, Some, None, option_map, Ok, Err}
 use Rattle.lane_core.specs.declared.vector.Pointee.TheVariants as target
-use Rattle.c_text.specs.declared.tokens.Place.{Place}
 use Rattle.const_imm.specs.Constant.{value_of}
 use Rattle.c_tree.specs.declared.types.CType.{CType}
 use Rattle.c_tree.specs.declared.types.CType.TheVariants.{Int, Array}

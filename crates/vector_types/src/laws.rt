@@ -9,6 +9,7 @@ ghost use Rattle.vector_types.specs.Typed.{TypedUnit};
 
 use expression_types::expressions_are_typed_by_rules;
 use object_types::objects_are_typed_by_rules;
+use order_rule::passing_is_by_the_rules;
 use statement_types::statements_are_typed_by_rules;
 use type_rules::types_are_by_rules;
 
@@ -23,4 +24,5 @@ pub fn units_are_typed_by_rules()
     expressions_are_typed_by_rules();
     objects_are_typed_by_rules();
     statements_are_typed_by_rules();
+    passing_is_by_the_rules();
 }

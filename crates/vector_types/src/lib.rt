@@ -5,6 +5,7 @@ mod file_scope;
 mod functions;
 mod headings;
 mod laws;
+mod order;
 mod tables;
 #[cfg(test)]
 mod tests;

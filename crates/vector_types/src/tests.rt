@@ -91,7 +91,6 @@ int g(void); int f(void) { return g(); } -> 1:35 10 g
 int f(void) { return g(y); } -> 1:22 10 g
 int g(int x) { return x; } int f(void) { return g(y); } -> 1:51 10 y
 int f(void) { int g; return g(1); } -> 1:29 11 g
-int f(int x) { x = x++ + 1; return x; } -> f: Int(Int)(Int(Int)) = Int(Int)
 int f(void) { return y; } -> 1:22 10 y
 int f(__m128i a) { return a; } -> 1:20 11 return
 int f(int x) { char t[65537]; return x; } -> 1:21 20 t
@@ -99,6 +98,69 @@ unsigned f(unsigned c, unsigned char b) { return _mm_crc32_u8(c, b); }$int g(int
 int f(__m128i a) { if (a) return y; return 0; } -> 1:24 11 a
 void f(void) { break; } -> 1:16 11 break
 void f(int x) { return x; } -> 1:17 11 return";
+
+// The same of variables that a full expression steps or assigns, and the parts of full expressions.
+const VARIABLES: &str = "\
+void f(int x) { x = x + 1; } -> f: Void(Int(Int))
+void f(int x) { x = x++ + 1; } -> 1:19 16 =
+void f(int x) { x += x; } -> f: Void(Int(Int))
+void f(int x) { x = x = 1; } -> 1:19 16 =
+void f(int x, int y) { x = y = 1; } -> f: Void(Int(Int), Int(Int))
+void f(int x, int y) { y = x = x + 1; } -> 1:26 16 =
+void f(int x, int y) { y = x++ + y; } -> f: Void(Int(Int), Int(Int))
+void f(int x, int y) { y = x++ + x; } -> 1:26 16 =
+void f(int x) { (x = 1) + x; } -> 1:25 16 +
+void f(int x) { x++ + sizeof x; } -> 1:21 16 +
+void f(int x) { x++, x++; } -> f: Void(Int(Int))
+void f(int x) { x++ && x++ || x++; } -> f: Void(Int(Int))
+void f(int x) { x++ ? x++ : x--; } -> f: Void(Int(Int))
+void f(int x) { (void)(x++, x++); } -> 1:17 16 (
+void f(int x) { (x++, x++) + 1; } -> 1:28 16 +
+void f(int x, int y) { x = 1, (y ? x++ + x : 1), y++ + y; } -> 1:40 16 +
+char f(int x) { return x++ && x++; } -> f: Int(Char)(Int(Int)) = Int(Char) <- Int(Int)
+char f(int x) { return x++ + x; } -> 1:28 16 +
+void f(int x) { int y = x++ + x; } -> 1:29 16 +
+void f(int x) { if (x++ + x) ; } -> 1:25 16 +
+void f(void) { for (int i = 0; i++ < i; ) ; } -> 1:36 16 <
+void f(int *p) { *p++ = *p; } -> 1:23 16 =
+void f(int *p, int *q) { *p++ = *q++; } -> f: Void(Pointer(Int(Int), false), Pointer(Int(Int), false))
+void f(int x) { x++ + x; x = x++; } -> 1:21 16 +
+void f(int x) { x = x++; y; } -> 1:26 10 y
+void f(int x) { x = x++; } void g(int x) { x++ + x; } -> 1:19 16 =; 1:48 16 +
+neon: void f(int x) { x = x++ + 1; } -> f: Void(Int(Int))";
+
+// The same of what full expressions store and read.
+const MEMORY: &str = "\
+void f(int *p, int *q) { (*p = 1) + (*q = 2); } -> 1:35 16 +
+void f(int *p, int *q) { *p = *q = 0; } -> 1:29 16 =
+void f(int *p, int *q) { *p = *p + *q; } -> f: Void(Pointer(Int(Int), false), Pointer(Int(Int), false))
+void f(int *p, int *q, int x) { x = (*p = 1) + *q; } -> 1:35 16 =
+void f(int x, int y) { x = y = 1; int *p = &x; p = &y; } -> 1:26 16 =
+void f(int x, int y) { x = y = 1; int *p = &y; } -> f: Void(Int(Int), Int(Int))
+void f(void) { int t[2]; t[0] = t[1] = 1; } -> 1:31 16 =
+int s(int *p) { return *p = 1; } void f(int *p) { s(p) + s(p); } -> 1:56 16 +
+static inline int s(int *p) { return *p = 1; } void f(int *p) { s(p) + *p; } -> 1:70 16 +
+int s(int *p) { return *p = 1; } void f(int *p) { *p = s(p); } -> 1:54 16 =
+int s(int *p) { return *p = 1; } void f(int *p, int x) { x = s(p) + x; } -> s: Int(Int)(Pointer(Int(Int), false)) = Int(Int), f: Void(Pointer(Int(Int), false), Int(Int))
+int s(int *p) { return *p = 1; } void f(int *p) { s(p), s(p); } -> s: Int(Int)(Pointer(Int(Int), false)) = Int(Int), f: Void(Pointer(Int(Int), false))
+int s(int *p) { return *p = 1; } int t(int *p) { return s(p); } void f(int *p) { t(p) + *p; } -> 1:87 16 +
+int r(int *p) { return *p; } int s(int *p) { return *p = 1; } void f(int *p) { r(p) + s(p); } -> 1:85 16 +
+int r(int *p) { return *p; } void f(int *p) { r(p) + *p; } -> r: Int(Int)(Pointer(Int(Int), false)) = Int(Int), f: Void(Pointer(Int(Int), false))
+int r(int *p) { return *p; } void f(int *p) { *p = r(p); } -> r: Int(Int)(Pointer(Int(Int), false)) = Int(Int), f: Void(Pointer(Int(Int), false))
+int r(int *p) { return *p; } int t(int *p) { return r(p); } void f(int *p) { t(p) + (*p = 1); } -> 1:83 16 +
+int r(int *p) { return *p; } int t(int *p, int x) { return *p = x; } void f(int *p) { t(p, r(p)); } -> r: Int(Int)(Pointer(Int(Int), false)) = Int(Int), t: Int(Int)(Pointer(Int(Int), false), Int(Int)) = Int(Int), f: Void(Pointer(Int(Int), false))
+int s(int *p) { return *p = 1; } void f(int *p) { int x = 1; s(p) + x; { int x; p = &x; } } -> s: Int(Int)(Pointer(Int(Int), false)) = Int(Int), f: Void(Pointer(Int(Int), false))
+int s(int *p) { return *p = 1; } void f(int *p) { int x = 1; s(p) + x; p = &x; } -> 1:67 16 +
+const int t = 1; int s(int *p) { return *p = 1; } void f(int *p) { s(p) + t; } -> t: Int(Int), s: Int(Int)(Pointer(Int(Int), false)) = Int(Int), f: Void(Pointer(Int(Int), false))
+const int t[2] = {1}; int s(int *p) { return *p = 1; } void f(int *p) { s(p) + t[0]; } -> 1:78 16 +
+int s(int *p) { *p = 1; return y; } void f(int *p) { s(p) + s(p); } -> 1:32 10 y
+int s(int *p) { return (*p = 1) + *p; } void f(int *p) { s(p) + s(p); } -> 1:33 16 +
+int _mm_storeu_si128(int *p) { return 0; } void f(int *p) { _mm_storeu_si128(p) + _mm_storeu_si128(p); } -> 1:5 12 _mm_storeu_si128
+int s(int *p) { return *p = 1; } int s(int *p) { return 0; } void f(int *p) { s(p) + s(p); } -> 1:38 11 s; 1:84 16 +
+void f(__m128i *p) { _mm_storeu_si128(p, _mm_loadu_si128(p)); } -> f: Void(Pointer(M128, false))
+void f(__m128i *p, __m128i a) { _mm_storeu_si128(p, *p = a); } -> 1:33 16 _mm_storeu_si128
+__m128i w(__m128i *p) { return *p = _mm_loadu_si128(p); } void f(__m128i *p, __m128i *q) { _mm_xor_si128(_mm_loadu_si128(p), w(q)); } -> 1:92 16 _mm_xor_si128
+neon: int s(int *p) { return *p = 1; } void f(int *p) { s(p) + s(p); } -> s: Int(Int)(Pointer(Int(Int), false)) = Int(Int), f: Void(Pointer(Int(Int), false))";
 
 fn put(out: &mut Vec<u8>, text: &str) -> Result<(), AllocError> {
     out.extend_from_slice(text.as_bytes())?;
@@ -230,6 +292,16 @@ fn names_and_tables(rt: HostRuntime) -> Result<(), Wrong> {
 #[test]
 fn refused_items_and_calls(rt: HostRuntime) -> Result<(), Wrong> {
     agree(&rt, rt.alloc(), ITEMS)
+}
+
+#[test]
+fn order_of_variables(rt: HostRuntime) -> Result<(), Wrong> {
+    agree(&rt, rt.alloc(), VARIABLES)
+}
+
+#[test]
+fn order_of_memory(rt: HostRuntime) -> Result<(), Wrong> {
+    agree(&rt, rt.alloc(), MEMORY)
 }
 
 // A unit that was typed is typed as the same once more.

@@ -1,10 +1,8 @@
-use Rattle.std.proofs.Common.{◌≡◌, ◌∙◌, true, [], sym, ap, subst, map, rules}
+use Rattle.std.proofs.Common.{◌≡◌, ◌∙◌, ap, map, rules}
 use Rattle.c_tree.specs.View.{view_declared, view_stmts}
-use Rattle.scopes.specs.Scopes.{Env, env_of, opened}
-use Rattle.scopes.specs.Kept.{at_file, is_inside, OnRefusal, OnAnswer}
-use Rattle.scopes.proofs.Outermost.{opened_at_file, opened_inside}
-use Rattle.statement_types.specs.Statements.{with_objects, beyond_all}
-use Rattle.statement_types.proofs.FileScope.{objects_inside, objects_at_file, statements_at_file}
+use Rattle.scopes.specs.Scopes.{env_of}
+use Rattle.scopes.specs.Kept.{at_file, OnAnswer}
+use Rattle.statement_types.proofs.FileScope.{statements_at_file}
 use Rattle.vector_types.proofs.InFunction.{entered_inside, entered_at_file, on_answer_then}
 use Rattle.vector_types.proofs.functions.check_function.Goals as goal
 
