@@ -1,0 +1,4 @@
+pub mod Joins
+pub mod Placed
+pub mod Ranges
+pub mod Sizes
