@@ -1,0 +1,8 @@
+pub mod Stacks
+pub mod Callees
+pub mod Turns
+pub mod Same
+pub mod Ends
+pub mod Units
+pub mod Halves
+pub mod Made

@@ -1,0 +1,91 @@
+-- What a run knows of a unit: its functions and its tables.
+use Rattle.std.proofs.Common.{◌≡◌, ℕ, ◌+◌, Bool, List, [], ◌∷◌, ◌++◌, map, length, drop, refl, sym, ap, ◌∙◌, subst}
+use Rattle.std.proofs.lemmas.List.{map-append, append_assoc, append-nil, length_push}
+use Rattle.c_tree.specs.declared.statements.Declared.{Declared}
+use Rattle.c_tree.specs.declared.units.Function.{Function}
+use Rattle.c_tree.specs.declared.units.Item.{Item}
+use Rattle.c_tree.specs.Tree.{External}
+use Rattle.c_tree.specs.View.{view_declared, view_function, view_item}
+use Rattle.c_memory.specs.declared.blocks.Block.{Block}
+use Rattle.c_memory.specs.declared.value.Value.{Value}
+use Rattle.c_memory.specs.Outcomes.{Outcome}
+use Rattle.c_memory.specs.MeaningState as state
+use Rattle.c_memory.specs.MeaningState.{InBlock}
+use Rattle.c_memory.specs.Meaning as meaning
+use Rattle.c_memory.specs.Meaning.{Calls, outcome, means, functions, table_block, table_blocks, table_objects}
+use Rattle.c_meaning.specs.declared.calls.Callee.{Callee}
+use Rattle.c_meaning.specs.declared.objects.Binding.{Binding}
+use Rattle.c_meaning.specs.declared.objects.Objects.{Objects}
+use Rattle.c_meaning.specs.Seen.{seen_binding, seen_objects}
+use Rattle.c_meaning.specs.Flagged.{Flagged, outermost}
+use Rattle.c_meaning.specs.Callees.{seen_callee}
+use Rattle.c_meaning.specs.Marked.{marked}
+use Rattle.c_meaning.specs.Ended.{HaveEnded}
+use Rattle.c_meaning.proofs.Same.{outermost_same}
+use Rattle.c_meaning.proofs.Ends.{means_ended}
+
+-- the functions behind these, with their truth values
+abbrev pub known : List Callee → List Item → List Flagged
+known out items = map seen_callee out ++ map marked (functions (map view_item items))
+
+pub table_passed : (whole : List Flagged) (out : List Callee) (all rest : List Item) (d : Declared) (s : Bool) → known out all ≡ whole → all ≡ Item.Table d s ∷ rest → known out rest ≡ whole
+table_passed whole out all rest d s h e = ap (known out) (sym e) ∙ h
+
+pub function_known : (whole : List Flagged) (out out' : List Callee) (all rest : List Item) (f : Function) (x : Callee) → known out all ≡ whole → all ≡ Item.Function f ∷ rest → out' ≡ out ++ x ∷ [] → seen_callee x ≡ marked (view_function f) → known out' rest ≡ whole
+function_known whole out out' all rest f x h e pushed same =
+    let others = map marked (functions (map view_item rest)) in
+    ap (λ o. map seen_callee o ++ others) pushed
+    ∙ ap (λ o. o ++ others) (map-append seen_callee out (x ∷ []))
+    ∙ append_assoc (map seen_callee out) (seen_callee x ∷ []) others
+    ∙ ap (λ y. map seen_callee out ++ (y ∷ others)) same
+    ∙ ap (known out) (sym e) ∙ h
+
+pub functions_known : (whole : List Flagged) (out : List Callee) → known out [] ≡ whole → map seen_callee out ≡ whole
+functions_known whole out h = sym (append-nil (map seen_callee out)) ∙ h
+
+pub passed_block : (whole blocks : List Block) (all rest : List Item) (f : Function) → blocks ++ table_blocks (map view_item all) ≡ whole → all ≡ Item.Function f ∷ rest → blocks ++ table_blocks (map view_item rest) ≡ whole
+passed_block whole blocks all rest f h e = ap (λ l. blocks ++ table_blocks (map view_item l)) (sym e) ∙ h
+
+pub passed_object : (whole : List state.Binding) (out : List Binding) (n : ℕ) (all rest : List Item) (f : Function) → map seen_binding out ++ table_objects n (map view_item all) ≡ whole → all ≡ Item.Function f ∷ rest → map seen_binding out ++ table_objects n (map view_item rest) ≡ whole
+passed_object whole out n all rest f h e = ap (λ l. map seen_binding out ++ table_objects n (map view_item l)) (sym e) ∙ h
+
+pub table_begun : (whole blocks blocks' : List Block) (all rest : List Item) (d : Declared) (s : Bool) (b : Block) → blocks ++ table_blocks (map view_item all) ≡ whole → all ≡ Item.Table d s ∷ rest → blocks' ≡ blocks ++ b ∷ [] → b ≡ table_block (view_declared d) → blocks' ++ table_blocks (map view_item rest) ≡ whole
+table_begun whole blocks blocks' all rest d s b h e pushed same =
+    let others = table_blocks (map view_item rest) in
+    ap (λ l. l ++ others) pushed ∙ append_assoc blocks (b ∷ []) others ∙ ap (λ y. blocks ++ (y ∷ others)) same ∙ ap (λ l. blocks ++ table_blocks (map view_item l)) (sym e) ∙ h
+
+pub table_in_scope : (whole : List state.Binding) (out out' : List Binding) (blocks blocks' : List Block) (all rest : List Item) (d : Declared) (s : Bool) (x : Binding) (b : Block) →
+    map seen_binding out ++ table_objects (length blocks) (map view_item all) ≡ whole → all ≡ Item.Table d s ∷ rest → blocks' ≡ blocks ++ b ∷ [] → out' ≡ out ++ x ∷ [] →
+    seen_binding x ≡ record { name = (view_declared d).name; ty = (view_declared d).ty; location = InBlock (length blocks) } → map seen_binding out' ++ table_objects (length blocks') (map view_item rest) ≡ whole
+table_in_scope whole out out' blocks blocks' all rest d s x b h e grown pushed same =
+    let others = table_objects (length blocks + 1) (map view_item rest) in
+    ap (λ n. map seen_binding out' ++ table_objects n (map view_item rest)) (ap length grown ∙ length_push blocks b)
+    ∙ ap (λ o. map seen_binding o ++ others) pushed
+    ∙ ap (λ o. o ++ others) (map-append seen_binding out (x ∷ []))
+    ∙ append_assoc (map seen_binding out) (seen_binding x ∷ []) others
+    ∙ ap (λ y. map seen_binding out ++ (y ∷ others)) same
+    ∙ ap (λ l. map seen_binding out ++ table_objects (length blocks) (map view_item l)) (sym e) ∙ h
+
+pub tables_begun : (whole blocks : List Block) → blocks ++ table_blocks (map view_item []) ≡ whole → blocks ≡ whole
+tables_begun whole blocks h = sym (append-nil blocks) ∙ h
+
+pub tables_in_scope : (whole : List state.Binding) (out : List Binding) (n : ℕ) → map seen_binding out ++ table_objects n (map view_item []) ≡ whole → map seen_binding out ≡ whole
+tables_in_scope whole out n h = sym (append-nil (map seen_binding out)) ∙ h
+
+-- ---- the whole run
+
+abbrev pub begun : List Block → List External → ℕ → state.State
+begun memory unit turns = record { objects = []; memory = memory ++ table_blocks unit; left = turns }
+
+pub run_means : (rows : Calls) (unit : List External) (name : List ℕ) (args : List Value) (memory blocks : List Block) (turns : ℕ) (tables : Objects) (callees : List Callee) (o : Outcome) →
+    o ≡ outcome (outermost (seen_objects tables) rows (map seen_callee callees) name args (record { objects = []; memory = blocks; left = turns })) →
+    map seen_callee callees ≡ map marked (functions unit) → seen_objects tables ≡ table_objects (length memory) unit → blocks ≡ memory ++ table_blocks unit →
+    o ≡ means rows unit name args memory turns
+run_means rows unit name args memory blocks turns tables callees o h fs ts bs =
+    h ∙ ap (λ m. outcome (outermost (seen_objects tables) rows (map seen_callee callees) name args (record { objects = []; memory = m; left = turns }))) bs
+    ∙ ap (λ t. outcome (outermost t rows (map seen_callee callees) name args (begun memory unit turns))) ts
+    ∙ ap (λ l. outcome (outermost (table_objects (length memory) unit) rows l name args (begun memory unit turns))) fs
+    ∙ ap (λ p. outcome (p (begun memory unit turns))) (outermost_same (table_objects (length memory) unit) rows (functions unit) name args)
+
+pub run_ended : (rows : Calls) (unit : List External) (name : List ℕ) (args : List Value) (memory : List Block) (turns : ℕ) (o : Outcome) → o ≡ means rows unit name args memory turns → HaveEnded (length memory + length (table_blocks unit)) o
+run_ended rows unit name args memory turns o e = subst (HaveEnded (length memory + length (table_blocks unit))) (sym e) (means_ended rows unit name args memory turns)

@@ -1,0 +1,641 @@
+//! The evaluator: what expressions and statements do.
+
+ghost use Rattle.std.specs.Prelude.{◌≡◌, None, map, option_map};
+ghost use Rattle.c_tree.specs.View.{view, views, view_declared, view_stmt, view_stmts, view_optional};
+ghost use Rattle.c_tree.specs.Tree.{Half};
+ghost use Rattle.address_taken.specs.Taken.{seen_all};
+ghost use Rattle.c_memory.specs.Meaning.{condition, expression, kind_expression, its_value, target, last, values, loops, loops_after, with_step, optional_condition, optional_value, initialised};
+ghost use Rattle.c_meaning.specs.Seen.{seen_objects};
+ghost use Rattle.c_meaning.specs.Halves.{name_in, half_expression};
+ghost use Rattle.c_meaning.specs.States.{seen_state, seen_target};
+ghost use Rattle.c_meaning.specs.Answers.{Answers, Shows};
+ghost use Rattle.c_meaning.specs.Callees.{seen_callee, seen_flow, calls_at};
+ghost use Rattle.c_meaning.specs.Flagged.{parts_of, declare, act, optional_act, sequence, call_of, body_of};
+
+use crate::beginnings::is_block;
+use crate::calls::{Callee, Environment, Flow, last_called};
+use crate::flags::{after_start, first_flag, flags_of, other_flags, parts_of, rest_of};
+use crate::names::name_in;
+use crate::rows::Rows;
+use crate::state::{State, Stop, Target};
+use crate::values::push;
+use address_taken::Taken;
+use c_memory::Value;
+use c_tree::{CType, Declared, Expr, ExprKind, Stmt};
+use c_values::operators;
+use std::mem::replace;
+
+/// The value of an expression, or none where its type is `void`. It may call the first `n` functions.
+#[cycle(run)]
+fn expression<'a, R: Rows>(
+    env: &Environment<'a, '_, R>,
+    n: usize,
+    state: &mut State<'a>,
+    e: &'a Expr,
+) -> Result<Option<Value>, Stop>
+    ensures { Answers (expression (view e.now) (calls_at env.now.tables R.row_call env.now.callees.items n) (seen_state state.old)) result state.new }
+{
+    match &*e.kind {
+        ExprKind::Const(number) => Ok(Some(Value::Int(*number))),
+        ExprKind::Name(x) => {
+            let binding = state.object_of(x.bytes())?;
+            let v = state.object_value(binding.ty, binding)?;
+            Ok(Some(v))
+        }
+        ExprKind::Unary(op, a) => {
+            let v = value(env, n, state, a)?;
+            let w = operators::operate_before(&state.memory, *op, v).ok_or(Stop::Undefined)?;
+            Ok(Some(w))
+        }
+        ExprKind::Step(a, up, before) => {
+            let place = target(env, n, state, a)?;
+            let v = state.step(e.ty, *up, *before, place)?;
+            Ok(Some(v))
+        }
+        ExprKind::Binary(op, a, b) => {
+            let v = value(env, n, state, a)?;
+            let w = value(env, n, state, b)?;
+            let x = operators::operate(&state.memory, *op, a.ty, b.ty, v, w).ok_or(
+                Stop::Undefined,
+            )?;
+            Ok(Some(x))
+        }
+        ExprKind::AndThen(a, b) => {
+            if holds(env, n, state, a)? {
+                let w = holds(env, n, state, b)?;
+                Ok(Some(operators::as_int(w)))
+            } else {
+                Ok(Some(operators::as_int(false)))
+            }
+        }
+        ExprKind::OrElse(a, b) => {
+            if holds(env, n, state, a)? {
+                Ok(Some(operators::as_int(true)))
+            } else {
+                let w = holds(env, n, state, b)?;
+                Ok(Some(operators::as_int(w)))
+            }
+        }
+        ExprKind::Choice(c, a, b) => {
+            if holds(env, n, state, c)? {
+                expression(env, n, state, a)
+            } else {
+                expression(env, n, state, b)
+            }
+        }
+        ExprKind::Assign(op, a, b) => {
+            let place = target(env, n, state, a)?;
+            let w = value(env, n, state, b)?;
+            let v = state.assigned_by(*op, e.ty, b.ty, place, w)?;
+            Ok(Some(v))
+        }
+        ExprKind::Comma(all) => last(env, n, state, all.as_slice()),
+        ExprKind::Cast(ty, a, _) => {
+            let v = expression(env, n, state, a)?;
+            state.cast_to(*ty, v)
+        }
+        ExprKind::Index(a, b) => {
+            let v = value(env, n, state, a)?;
+            let w = value(env, n, state, b)?;
+            let place = state.element(a.ty, b.ty, v, w)?;
+            let v = state.read_target(e.ty, place)?;
+            Ok(Some(v))
+        }
+        ExprKind::Deref(a) => {
+            let v = value(env, n, state, a)?;
+            let place = state.there(v)?;
+            let v = state.read_target(e.ty, place)?;
+            Ok(Some(v))
+        }
+        ExprKind::Address(a) => {
+            let place = target(env, n, state, a)?;
+            let v = state.address(place)?;
+            Ok(Some(v))
+        }
+        ExprKind::Call(f, all) => {
+            let given = values(env, n, state, all.as_slice())?;
+            call(env, n, state, f.bytes(), given.as_slice())
+        }
+        ExprKind::Half(a, k) => half_of_pair(env, n, state, e.ty, a, *k),
+        ExprKind::PairOf(a, b) => {
+            let v = value(env, n, state, a)?;
+            let w = value(env, n, state, b)?;
+            let v = state.pair_of(v, w)?;
+            Ok(Some(v))
+        }
+        ExprKind::SizeOfType(ty) => {
+            let v = state.size_value(*ty)?;
+            Ok(Some(v))
+        }
+        ExprKind::SizeOfName(x) => {
+            let binding = state.object_of(x.bytes())?;
+            let v = state.size_value(binding.ty)?;
+            Ok(Some(v))
+        }
+        ExprKind::Str(_) => Err(Stop::Undefined),
+    }
+}
+
+/// The value of an expression. Undefined where it gives none.
+#[cycle(run)]
+fn value<'a, R: Rows>(
+    env: &Environment<'a, '_, R>,
+    n: usize,
+    state: &mut State<'a>,
+    e: &'a Expr,
+) -> Result<Value, Stop>
+    ensures { Answers (its_value (expression (view e.now) (calls_at env.now.tables R.row_call env.now.callees.items n)) (seen_state state.old)) result state.new }
+{
+    let v = expression(env, n, state, e)?;
+    v.ok_or(Stop::Undefined)
+}
+
+/// Whether a condition holds.
+#[cycle(run)]
+fn holds<'a, R: Rows>(
+    env: &Environment<'a, '_, R>,
+    n: usize,
+    state: &mut State<'a>,
+    e: &'a Expr,
+) -> Result<bool, Stop>
+    ensures { Answers (condition (expression (view e.now) (calls_at env.now.tables R.row_call env.now.callees.items n)) (seen_state state.old)) result state.new }
+{
+    let v = value(env, n, state, e)?;
+    operators::holds(&state.memory, v).ok_or(Stop::Undefined)
+}
+
+/// Half of a pair, as an expression of a type. The type doesn't matter.
+#[cycle(run)]
+fn half_of_pair<'a, R: Rows>(
+    env: &Environment<'a, '_, R>,
+    n: usize,
+    state: &mut State<'a>,
+    _ty: CType,
+    e: &'a Expr,
+    k: u8,
+) -> Result<Option<Value>, Stop>
+    ensures { Answers (kind_expression _ty (Half (view e.now) k) (calls_at env.now.tables R.row_call env.now.callees.items n) (seen_state state.old)) result state.new }
+{
+    half(env, n, state, e, k)
+}
+
+/// Half of a pair: of an object apart from memory, or of a value.
+#[cycle(run)]
+fn half<'a, R: Rows>(
+    env: &Environment<'a, '_, R>,
+    n: usize,
+    state: &mut State<'a>,
+    e: &'a Expr,
+    k: u8,
+) -> Result<Option<Value>, Stop>
+    ensures { Answers (half_expression (name_in (view e.now)) k (expression (view e.now) (calls_at env.now.tables R.row_call env.now.callees.items n)) (seen_state state.old)) result state.new }
+{
+    match name_in(e) {
+        Some(x) => {
+            let binding = state.object_of(x)?;
+            let v = state.half_named(k, binding)?;
+            Ok(Some(v))
+        }
+        None => {
+            let v = value(env, n, state, e)?;
+            let v = state.half_of(k, v)?;
+            Ok(Some(v))
+        }
+    }
+}
+
+/// The object that an expression names.
+#[cycle(run)]
+fn target<'a, R: Rows>(
+    env: &Environment<'a, '_, R>,
+    n: usize,
+    state: &mut State<'a>,
+    e: &'a Expr,
+) -> Result<Target<'a>, Stop>
+    ensures { Shows seen_target (target (view e.now) (calls_at env.now.tables R.row_call env.now.callees.items n) (seen_state state.old)) result state.new }
+{
+    match &*e.kind {
+        ExprKind::Name(x) => {
+            let binding = state.object_of(x.bytes())?;
+            Ok(binding.target())
+        }
+        ExprKind::Index(a, b) => {
+            let v = value(env, n, state, a)?;
+            let w = value(env, n, state, b)?;
+            state.element(a.ty, b.ty, v, w)
+        }
+        ExprKind::Deref(a) => {
+            let v = value(env, n, state, a)?;
+            state.there(v)
+        }
+        ExprKind::Half(a, k) => {
+            let place = target(env, n, state, a)?;
+            state.half_target(*k, place)
+        }
+        _ => Err(Stop::Undefined),
+    }
+}
+
+/// The value of the last of several expressions.
+#[cycle(run)]
+fn last<'a, R: Rows>(
+    env: &Environment<'a, '_, R>,
+    n: usize,
+    state: &mut State<'a>,
+    all: &'a [Expr],
+) -> Result<Option<Value>, Stop>
+    ensures { Answers (last None (views all.now) (calls_at env.now.tables R.row_call env.now.callees.items n) (seen_state state.old)) result state.new }
+{
+    let mut v = None;
+    for e in all {
+        v = expression(env, n, state, e)?;
+    }
+    Ok(v)
+}
+
+/// The values of arguments, from left to right.
+#[cycle(run)]
+fn values<'a, R: Rows>(
+    env: &Environment<'a, '_, R>,
+    n: usize,
+    state: &mut State<'a>,
+    all: &'a [Expr],
+) -> Result<Vec<Value>, Stop>
+    ensures { Shows (λ v. v.items) (values (views all.now) (calls_at env.now.tables R.row_call env.now.callees.items n) (seen_state state.old)) result state.new }
+{
+    let mut given = Vec::new(env.alloc);
+    for e in all {
+        let v = value(env, n, state, e)?;
+        push(&mut given, v)?;
+    }
+    Ok(given)
+}
+
+/// The call of a name: of the last of the first `n` functions that has it, or else of a row.
+#[cycle(run)]
+fn call<'a, R: Rows>(
+    env: &Environment<'a, '_, R>,
+    n: usize,
+    state: &mut State<'a>,
+    name: &[u8],
+    given: &[Value],
+) -> Result<Option<Value>, Stop>
+    ensures { Answers (calls_at env.now.tables R.row_call env.now.callees.items n name.now given.now (seen_state state.old)) result state.new }
+{
+    let callees = env.callees.as_slice();
+    let count = n.min(callees.len());
+    match last_called(&callees[..count], name) {
+        None => env.rows.call(env.alloc, state, name, given),
+        Some(k) => {
+            let callee = &env.callees[k];
+            state.spend_for(name)?;
+            enter(env, k, state, callee, given)
+        }
+    }
+}
+
+/// The call of the function of number `k` with these arguments. It may call those before it.
+#[cycle(run)]
+pub fn enter<'a, R: Rows>(
+    env: &Environment<'a, '_, R>,
+    k: usize,
+    state: &mut State<'a>,
+    callee: &Callee<'a>,
+    given: &[Value],
+) -> Result<Option<Value>, Stop>
+    ensures { Answers (call_of (seen_objects env.now.tables) (seen_callee callee.now) (calls_at env.now.tables R.row_call env.now.callees.items k) given.now (seen_state state.old)) result state.new }
+{
+    let tables = env.tables.copy(env.alloc)?;
+    let blocks = state.memory.blocks.len();
+    let caller = replace(&mut state.objects, tables);
+    let v = body(env, k, state, callee, given)?;
+    state.objects = caller;
+    state.memory.blocks.end_from(blocks);
+    Ok(v)
+}
+
+/// What a function does with these arguments where the tables alone are in scope.
+#[cycle(run)]
+fn body<'a, R: Rows>(
+    env: &Environment<'a, '_, R>,
+    n: usize,
+    state: &mut State<'a>,
+    callee: &Callee<'a>,
+    given: &[Value],
+) -> Result<Option<Value>, Stop>
+    ensures { Answers (body_of (seen_callee callee.now) (calls_at env.now.tables R.row_call env.now.callees.items n) given.now (seen_state state.old)) result state.new }
+{
+    let function = callee.function;
+    state.begin_parameters(
+        env.alloc,
+        function.params.as_slice(),
+        callee.taken.params.as_slice(),
+        given,
+    )?;
+    let flow = sequence(
+        env,
+        n,
+        state,
+        function.body.as_slice(),
+        callee.taken.body.as_slice(),
+    )?;
+    state.given(function.result, flow)
+}
+
+/// What a statement does. The first of `taken` is the statement's.
+#[cycle(run)]
+fn act<'a, R: Rows>(
+    env: &Environment<'a, '_, R>,
+    n: usize,
+    state: &mut State<'a>,
+    s: &'a Stmt,
+    taken: &[Taken],
+) -> Result<Flow, Stop>
+    ensures { Shows seen_flow (act (view_stmt s.now) (seen_all taken.now) (calls_at env.now.tables R.row_call env.now.callees.items n) (seen_state state.old)) result state.new }
+{
+    match s {
+        Stmt::Declare(all) => {
+            declare(env, n, state, all.as_slice(), flags_of(taken))?;
+            Ok(Flow::Next)
+        }
+        Stmt::Run(e) => {
+            let _ = expression(env, n, state, e)?;
+            Ok(Flow::Next)
+        }
+        Stmt::Block(all) => {
+            let objects = state.objects.len();
+            let blocks = state.memory.blocks.len();
+            let flow = sequence(env, n, state, all.as_slice(), parts_of(taken))?;
+            state.leave(objects, blocks);
+            Ok(flow)
+        }
+        Stmt::If(c, s, other) => {
+            let parts = parts_of(taken);
+            if holds(env, n, state, c)? {
+                act(env, n, state, s, parts)
+            } else {
+                optional_act(env, n, state, other, rest_of(parts))
+            }
+        }
+        Stmt::While(c, s) => while_loop(env, n, state, c, s, taken),
+        Stmt::DoWhile(s, c) => do_loop(env, n, state, s, c, taken),
+        Stmt::For(start, c, next, s) => {
+            let parts = parts_of(taken);
+            let objects = state.objects.len();
+            let blocks = state.memory.blocks.len();
+            let _ = optional_act(env, n, state, start, parts)?;
+            let flow = turns_with(env, n, state, c, next, s, after_start(start, parts))?;
+            state.leave(objects, blocks);
+            Ok(flow)
+        }
+        Stmt::Break(_) => Ok(Flow::Broke),
+        Stmt::Continue(_) => Ok(Flow::Continued),
+        Stmt::Return(_, None) => Ok(Flow::Returned(None)),
+        Stmt::Return(_, Some(e)) => {
+            let v = value(env, n, state, e)?;
+            Ok(Flow::Returned(Some(v)))
+        }
+        Stmt::Empty => Ok(Flow::Next),
+    }
+}
+
+/// What a statement does that may be left out.
+#[cycle(run)]
+fn optional_act<'a, R: Rows>(
+    env: &Environment<'a, '_, R>,
+    n: usize,
+    state: &mut State<'a>,
+    s: &'a Option<Box<Stmt>>,
+    taken: &[Taken],
+) -> Result<Flow, Stop>
+    ensures { Shows seen_flow (optional_act (view_optional s.now) (seen_all taken.now) (calls_at env.now.tables R.row_call env.now.callees.items n) (seen_state state.old)) result state.new }
+{
+    match s {
+        None => Ok(Flow::Next),
+        Some(s) => act(env, n, state, s, taken),
+    }
+}
+
+/// What statements in a row do.
+#[cycle(run)]
+fn sequence<'a, R: Rows>(
+    env: &Environment<'a, '_, R>,
+    n: usize,
+    state: &mut State<'a>,
+    all: &'a [Stmt],
+    taken: &[Taken],
+) -> Result<Flow, Stop>
+    ensures { Shows seen_flow (sequence (view_stmts all.now) (seen_all taken.now) (calls_at env.now.tables R.row_call env.now.callees.items n) (seen_state state.old)) result state.new }
+{
+    let mut left = taken;
+    for s in all {
+        match act(env, n, state, s, left)? {
+            Flow::Next => {}
+            other => return Ok(other),
+        }
+        left = rest_of(left);
+    }
+    Ok(Flow::Next)
+}
+
+/// Objects come into scope and get their first values, in turn.
+#[cycle(run)]
+fn declare<'a, R: Rows>(
+    env: &Environment<'a, '_, R>,
+    n: usize,
+    state: &mut State<'a>,
+    all: &'a [Declared],
+    flags: &[bool],
+) -> Result<(), Stop>
+    ensures { Answers (declare (map view_declared all.now) flags.now (calls_at env.now.tables R.row_call env.now.callees.items n) (seen_state state.old)) result state.new }
+{
+    let mut left = flags;
+    for d in all {
+        state.begin_object(env.alloc, d, is_block(d.ty, first_flag(left)))?;
+        initialise(env, n, state, d)?;
+        left = other_flags(left);
+    }
+    Ok(())
+}
+
+/// An object gets its first value, where one is written.
+#[cycle(run)]
+fn initialise<'a, R: Rows>(
+    env: &Environment<'a, '_, R>,
+    n: usize,
+    state: &mut State<'a>,
+    d: &'a Declared,
+) -> Result<(), Stop>
+    ensures { Answers (initialised (view_declared d.now) (view_declared d.now).init (view_declared d.now).list (calls_at env.now.tables R.row_call env.now.callees.items n) (seen_state state.old)) result state.new }
+{
+    match &d.init {
+        None => state.first_list(env.alloc, d),
+        Some(e) => {
+            let v = value(env, n, state, e)?;
+            let binding = state.object_of(d.name.bytes())?;
+            state.first_value(env.alloc, binding, v)
+        }
+    }
+}
+
+/// A `while` loop. The first of `taken` is its own.
+#[cycle(run)]
+fn while_loop<'a, R: Rows>(
+    env: &Environment<'a, '_, R>,
+    n: usize,
+    state: &mut State<'a>,
+    c: &'a Expr,
+    s: &'a Stmt,
+    taken: &[Taken],
+) -> Result<Flow, Stop>
+    ensures { let calls = calls_at env.now.tables R.row_call env.now.callees.items n in
+        Shows seen_flow (loops state.old.left (condition (expression (view c.now) calls)) (act (view_stmt s.now) (parts_of (seen_all taken.now)) calls) (seen_state state.old)) result state.new }
+{
+    turns(env, n, state, c, s, parts_of(taken))
+}
+
+/// A `do` loop. The first of `taken` is its own.
+#[cycle(run)]
+fn do_loop<'a, R: Rows>(
+    env: &Environment<'a, '_, R>,
+    n: usize,
+    state: &mut State<'a>,
+    s: &'a Stmt,
+    c: &'a Expr,
+    taken: &[Taken],
+) -> Result<Flow, Stop>
+    ensures { let calls = calls_at env.now.tables R.row_call env.now.callees.items n in
+        Shows seen_flow (loops_after state.old.left (condition (expression (view c.now) calls)) (act (view_stmt s.now) (parts_of (seen_all taken.now)) calls) (seen_state state.old)) result state.new }
+{
+    turns_after(env, n, state, s, c, parts_of(taken))
+}
+
+/// The turns of a loop that tests before its body.
+#[cycle(run)]
+fn turns<'a, R: Rows>(
+    env: &Environment<'a, '_, R>,
+    n: usize,
+    state: &mut State<'a>,
+    c: &'a Expr,
+    s: &'a Stmt,
+    taken: &[Taken],
+) -> Result<Flow, Stop>
+    ensures { let calls = calls_at env.now.tables R.row_call env.now.callees.items n in
+        Shows seen_flow (loops state.old.left (condition (expression (view c.now) calls)) (act (view_stmt s.now) (seen_all taken.now) calls) (seen_state state.old)) result state.new }
+{
+    let mut most = state.left;
+    loop {
+        let v = holds(env, n, state, c)?;
+        if !v {
+            return Ok(Flow::Next);
+        }
+        if most == 0 {
+            return Err(Stop::Turns);
+        }
+        most -= 1;
+        state.spend()?;
+        match act(env, n, state, s, taken)? {
+            Flow::Next | Flow::Continued => {}
+            Flow::Broke => return Ok(Flow::Next),
+            Flow::Returned(v) => return Ok(Flow::Returned(v)),
+        }
+    }
+}
+
+/// The turns of a loop that tests after its body.
+#[cycle(run)]
+fn turns_after<'a, R: Rows>(
+    env: &Environment<'a, '_, R>,
+    n: usize,
+    state: &mut State<'a>,
+    s: &'a Stmt,
+    c: &'a Expr,
+    taken: &[Taken],
+) -> Result<Flow, Stop>
+    ensures { let calls = calls_at env.now.tables R.row_call env.now.callees.items n in
+        Shows seen_flow (loops_after state.old.left (condition (expression (view c.now) calls)) (act (view_stmt s.now) (seen_all taken.now) calls) (seen_state state.old)) result state.new }
+{
+    let mut most = state.left;
+    loop {
+        if most == 0 {
+            return Err(Stop::Turns);
+        }
+        most -= 1;
+        state.spend()?;
+        match act(env, n, state, s, taken)? {
+            Flow::Next | Flow::Continued => {}
+            Flow::Broke => return Ok(Flow::Next),
+            Flow::Returned(v) => return Ok(Flow::Returned(v)),
+        }
+        let v = holds(env, n, state, c)?;
+        if !v {
+            return Ok(Flow::Next);
+        }
+    }
+}
+
+/// The turns of a loop with a step, whose condition and step may be left out.
+#[cycle(run)]
+fn turns_with<'a, R: Rows>(
+    env: &Environment<'a, '_, R>,
+    n: usize,
+    state: &mut State<'a>,
+    c: &'a Option<Expr>,
+    next: &'a Option<Expr>,
+    s: &'a Stmt,
+    taken: &[Taken],
+) -> Result<Flow, Stop>
+    ensures { let calls = calls_at env.now.tables R.row_call env.now.callees.items n in
+        Shows seen_flow (loops state.old.left (optional_condition (option_map view c.now) calls) (with_step (act (view_stmt s.now) (seen_all taken.now) calls) (optional_value (option_map view next.now) calls)) (seen_state state.old)) result state.new }
+{
+    let mut most = state.left;
+    loop {
+        let v = optional_holds(env, n, state, c)?;
+        if !v {
+            return Ok(Flow::Next);
+        }
+        if most == 0 {
+            return Err(Stop::Turns);
+        }
+        most -= 1;
+        state.spend()?;
+        match act(env, n, state, s, taken)? {
+            Flow::Next | Flow::Continued => {}
+            Flow::Broke => return Ok(Flow::Next),
+            Flow::Returned(v) => return Ok(Flow::Returned(v)),
+        }
+        let _ = optional_step(env, n, state, next)?;
+    }
+}
+
+/// Whether a condition holds that may be left out. Then it does.
+#[cycle(run)]
+fn optional_holds<'a, R: Rows>(
+    env: &Environment<'a, '_, R>,
+    n: usize,
+    state: &mut State<'a>,
+    c: &'a Option<Expr>,
+) -> Result<bool, Stop>
+    ensures { Answers (optional_condition (option_map view c.now) (calls_at env.now.tables R.row_call env.now.callees.items n) (seen_state state.old)) result state.new }
+{
+    match c {
+        None => Ok(true),
+        Some(e) => holds(env, n, state, e),
+    }
+}
+
+/// A loop's step, which may be left out.
+#[cycle(run)]
+fn optional_step<'a, R: Rows>(
+    env: &Environment<'a, '_, R>,
+    n: usize,
+    state: &mut State<'a>,
+    next: &'a Option<Expr>,
+) -> Result<Option<Value>, Stop>
+    ensures { Answers (optional_value (option_map view next.now) (calls_at env.now.tables R.row_call env.now.callees.items n) (seen_state state.old)) result state.new }
+{
+    match next {
+        None => Ok(None),
+        Some(e) => expression(env, n, state, e),
+    }
+}

@@ -1,0 +1,19 @@
+//! The evaluator of typed units: what the call of a function answers and leaves.
+#![tactic(auto)]
+
+mod beginnings;
+mod calls;
+mod evaluation;
+mod flags;
+mod names;
+mod objects;
+mod rows;
+mod state;
+#[cfg(test)]
+mod tests;
+mod unit;
+mod values;
+
+pub use crate::unit::run;
+pub use c_memory::{Memory, Outcome, Pointer, Value, VectorTable};
+pub use vector_types::TypedUnit;
