@@ -1,6 +1,6 @@
 -- An admitted source isn't refused.
-use Rattle.std.proofs.Common.{◌≡◌, ℕ, List, [], Option, Some, None, ◌∙◌, ap, subst, arith, inl, inr}
-use Rattle.c_text.specs.declared.tokens.Dialect.TheVariants.{X86}
+use Rattle.std.proofs.Common.{◌≡◌, ℕ, List, [], Option, Some, None, Result, Ok, Err, ◌∙◌, ap, subst, arith, inl, inr}
+use Rattle.c_text.specs.declared.tokens.Dialect.{Dialect}
 use Rattle.c_text.specs.declared.tokens.Token.{Token}
 use Rattle.c_text.specs.declared.refusals.Refusal.{Refusal as CodeRefusal}
 use Rattle.c_text.specs.Tokens.{Tokens, FirstFault, first_of}
@@ -8,10 +8,14 @@ use Rattle.c_text.proofs.Cuts.{one_token_list, tokens_read, fault_read}
 use Rattle.c_parse.specs.Limits.{first_past}
 use Rattle.c_parse.proofs.ItemsRead.{one_unit}
 use Rattle.c_tree.specs.Tree.{External}
+use Rattle.migrate_report.specs.Fits.{Fitting, NoFunction, DontFit, Fit, fitting}
+use Rattle.vector_types.specs.Units.{check_unit}
 use Rattle.simd_top.specs.Includes.{behind_includes, first_hash}
 use Rattle.simd_top.specs.Form.{first_outside}
-use Rattle.simd_top.specs.Source.{AreUnit, AreRefused, Directive, Scanned, Parsed, Outside, HasUnit, IsFirst, Lexed, Behind, IsRefused, IsAdmitted, TooLong, First}
-use Rattle.simd_top.specs.TopCall.{Admits, Refuses}
+use Rattle.simd_top.specs.Source.{AreUnit, AreRefused, Directive, Scanned, Parsed, IsParsed, IsUnparsed, Lexed, Behind, HasUnit, AreFirst, Alone, Checked}
+use Rattle.simd_top.specs.Refusals.{IsRefusedUnit, Outside, Nameless, Unfit, IsRefused, TooLong, First, Beyond, Serves, IsAdmitted}
+use Rattle.simd_top.specs.TopCall.{Admits, Refuses, IsServed}
+use Rattle.simd_top.specs.Words.{Command, Migrate, Run, dialect_of, asked}
 
 apart : {A : Type 0} (o : Option A) (x : A) → o ≡ None → o ≡ Some x → ⊥
 apart o x e h = cc
@@ -22,24 +26,60 @@ no_fault source ts r t f =
     let some = fault_read source r f in
     let nothing : first_of [] ≡ Some r = rw clean at some in cc
 
-behind : (ts : List Token) (u : List External) (r : CodeRefusal) → AreUnit ts u → AreRefused ts r → ⊥
-behind ts u r is (Directive t h e) = apart (first_hash (behind_includes ts)) t is.no_directive h
-behind ts u r is (Scanned h s) = apart _ r is.scanned s
-behind ts u r is (Parsed h s (inl none)) = none.none u is.is_unit
-behind ts u r is (Parsed h s (inr many)) =
-    apart (first_past 0 u) many.function is.within (ap (first_past 0) (one_unit X86 (behind_includes ts) u many.unit is.is_unit many.is) ∙ many.first)
-behind ts u r is (Outside h s v read within o) =
-    apart (first_outside [] u) r is.in_form (ap (first_outside []) (one_unit X86 (behind_includes ts) u v is.is_unit read) ∙ o)
+behind : (x : Dialect) (ts : List Token) (u : List External) (r : CodeRefusal) → AreUnit x ts u → AreRefused x ts r → ⊥
+behind x ts u r is (Directive t h e) = apart (first_hash (behind_includes x ts)) t is.no_directive h
+behind x ts u r is (Scanned h s) = apart _ r is.scanned s
+behind x ts u r is (Parsed h s (inl none)) = none.none u is.is_unit
+behind x ts u r is (Parsed h s (inr many)) =
+    apart (first_past 0 u) many.function is.within (ap (first_past 0) (one_unit x (behind_includes x ts) u many.unit is.is_unit many.is) ∙ many.first)
 
-excluded : (source : List ℕ) (u : List External) (r : CodeRefusal) → HasUnit source u → IsFirst source r → ⊥
-excluded source u r has (Lexed f) = no_fault source has.tokens r has.lexed f
-excluded source u r has (Behind ts t refused) =
-    behind has.tokens u r has.behind (subst (λ x. AreRefused x r) (one_token_list source ts has.tokens t has.lexed) refused)
+unparsed : (x : Dialect) (source : List ℕ) (u : List External) (r : CodeRefusal) → IsParsed x source u → IsUnparsed x source r → ⊥
+unparsed x source u r has (Lexed f) = no_fault source has.tokens r has.lexed f
+unparsed x source u r has (Behind ts t refused) =
+    behind x has.tokens u r has.behind (subst (λ y. AreRefused x y r) (one_token_list source ts has.tokens t has.lexed) refused)
 
-not_refused : (source line : List ℕ) → IsAdmitted source → IsRefused source line → ⊥
-not_refused source line is (TooLong long shown) = let within = is.within in omega (arith, long, within)
-not_refused source line is (First within r first shown) = excluded source is.unit r is.has_unit first
+one_parse : (x : Dialect) (source : List ℕ) (u v : List External) → IsParsed x source u → IsParsed x source v → u ≡ v
+one_parse x source u v a b =
+    let other : AreUnit x a.tokens v = subst (λ ts. AreUnit x ts v) (one_token_list source b.tokens a.tokens b.lexed a.lexed) b.behind in
+    one_unit x (behind_includes x a.tokens) u v a.behind.is_unit other.is_unit
 
-pub admitted_stays : (before : Option (List ℕ)) (line : List ℕ) → Admits before → Refuses before line → ⊥
-admitted_stays None line is refused = is
-admitted_stays (Some source) line is refused = not_refused source line is refused
+same_value : {A E : Type 0} (r : Result A E) (a b : A) → r ≡ Ok a → r ≡ Ok b → a ≡ b
+same_value r a b h k = cc
+
+no_value : {A E : Type 0} (r : Result A E) (a : A) (e : E) → r ≡ Ok a → r ≡ Err e → ⊥
+no_value r a e h k = cc
+
+one_typed : (x : Dialect) (source : List ℕ) (t w : List External) → HasUnit x source t → HasUnit x source w → t ≡ w
+one_typed x source t w a b =
+    same_value (check_unit x a.unit) t w a.checked (ap (check_unit x) (one_parse x source a.unit b.unit a.parsed b.parsed) ∙ b.checked)
+
+has_types : (x : Dialect) (source : List ℕ) (t : List External) (list : List CodeRefusal) → HasUnit x source t → AreFirst x source list → ⊥
+has_types x source t list has (Alone r is e) = unparsed x source has.unit r has.parsed is
+has_types x source t list has (Checked u is e) = no_value (check_unit x has.unit) t list has.checked (ap (check_unit x) (one_parse x source has.unit u has.parsed is) ∙ e)
+
+no_function : (f : Fitting) (args : _) (memory : _) → f ≡ Fit args memory → f ≡ NoFunction → ⊥
+no_function f args memory h k = cc
+
+no_fit : (f : Fitting) (args : _) (memory : _) → f ≡ Fit args memory → f ≡ DontFit → ⊥
+no_fit f args memory h k = cc
+
+serves_stays : (c : Command) (t : List External) (r : CodeRefusal) → Serves c t → IsRefusedUnit c t r → ⊥
+serves_stays Migrate t r serves (Outside u q h) = apart (first_outside [] t) r serves h
+serves_stays (Run x name turns items) t r (args, memory, fits) (Nameless n k is u e) = no_function (fitting t name items) args memory fits e
+serves_stays (Run x name turns items) t r (args, memory, fits) (Unfit n k is u e) = no_fit (fitting t name items) args memory fits e
+
+not_refused : (c : Command) (source lines : List ℕ) → IsAdmitted c source → IsRefused c source lines → ⊥
+not_refused c source lines is (TooLong long shown) = let within = is.within in omega (arith, long, within)
+not_refused c source lines is (First within list first shown) = has_types (dialect_of c) source is.unit list is.has_unit first
+not_refused c source lines is (Beyond within w has r refused shown) =
+    serves_stays c is.unit r is.serves (subst (λ y. IsRefusedUnit c y r) (one_typed (dialect_of c) source w is.unit has is.has_unit) refused)
+
+stays : (c : Command) (before : Option (List ℕ)) (lines : List ℕ) → Admits c before → Refuses c before lines → ⊥
+stays c None lines is refused = is
+stays c (Some source) lines is refused = not_refused c source lines is refused
+
+one_command : {A : Type 0} (o : Option A) (c d : A) → o ≡ Some c → o ≡ Some d → c ≡ d
+one_command o c d h k = cc
+
+pub served_stays : (words : List (List ℕ)) (d : Command) (before : Option (List ℕ)) (lines : List ℕ) → asked words ≡ Some d → IsServed words before → Refuses d before lines → ⊥
+served_stays words d before lines asks (c, is, admits) refused = stays c before lines admits (subst (λ x. Refuses x before lines) (one_command (asked words) d c asks is) refused)

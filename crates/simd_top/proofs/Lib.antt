@@ -1,4 +1,5 @@
-mod Asked
+mod Answering
+mod Asking
 mod Conjunction
 mod Excluded
 mod Fronts

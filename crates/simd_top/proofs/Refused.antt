@@ -1,32 +1,54 @@
 -- Why sources are refused.
-use Rattle.std.proofs.Common.{◌≡◌, ℕ, List, [], Some, None, Result, Ok, Err, IfErr, sym, ◌∙◌, ap, subst}
-use Rattle.c_text.specs.declared.tokens.Dialect.TheVariants.{X86}
+use Rattle.std.proofs.Common.{◌≡◌, ℕ, List, Some, None, Result, Ok, Err, IfOk, IfErr, sym, ◌∙◌, ap, subst}
+use Rattle.c_text.specs.declared.tokens.Dialect.{Dialect}
 use Rattle.c_text.specs.declared.tokens.Token.{Token}
 use Rattle.c_text.specs.declared.refusals.Fail.{Fail}
 use Rattle.c_text.specs.declared.refusals.Fail.TheVariants as fails
 use Rattle.c_text.specs.Tokens.{Tokens}
 use Rattle.c_preproc.specs.Scan.{IfRefused, refusal_of, first_refusal}
-use Rattle.c_parse.specs.Items.{IsUnit}
-use Rattle.c_parse.specs.Limits.{first_past}
+use Rattle.c_parse.specs.Limits.{Refused}
 use Rattle.c_tree.specs.Tree.{External}
+use Rattle.c_tree.specs.View.{view_unit}
+use Rattle.vector_types.specs.declared.typed_unit.TypedUnit.{TypedUnit}
+use Rattle.vector_types.specs.declared.units.CheckFail.{CheckFail}
+use Rattle.vector_types.specs.declared.units.CheckFail.TheVariants as many
+use Rattle.vector_types.specs.Answers as lists
+use Rattle.vector_types.specs.Units.{check_unit}
 use Rattle.simd_top.specs.Includes.{behind_includes, first_hash}
-use Rattle.simd_top.specs.Form.{first_outside}
-use Rattle.simd_top.specs.Source.{AreRefused, Directive, Outside, IsFirst, Behind}
+use Rattle.simd_top.specs.Seen.{IsAlone}
+use Rattle.simd_top.specs.Source.{AreRefused, Directive, Parsed, IsParsed, IsUnparsed, Behind, HasUnit, AreFirst, Alone, Checked}
 
-pub directive_refused : (e : Fail) (ts rest : List Token) (t : Token) → rest ≡ behind_includes ts → Some t ≡ first_hash rest → IfRefused e (λ r. r ≡ refusal_of 9 t) → IfRefused e (AreRefused ts)
-directive_refused (fails.Refused r) ts rest t same found is = Directive t (ap first_hash (sym same) ∙ sym found) is
-directive_refused fails.Memory ts rest t same found is = tt
+pub directive_refused : (x : Dialect) (e : Fail) (ts rest : List Token) (t : Token) → rest ≡ behind_includes x ts → Some t ≡ first_hash rest → IfRefused e (λ r. r ≡ refusal_of 9 t) →
+    IfRefused e (AreRefused x ts)
+directive_refused x (fails.Refused r) ts rest t same found is = Directive t (ap first_hash (sym same) ∙ sym found) is
+directive_refused x fails.Memory ts rest t same found is = tt
 
-pub outside_refused : {A : Type 0} (res : Result A Fail) (ts rest : List Token) (u : List External) → rest ≡ behind_includes ts → first_hash (behind_includes ts) ≡ None →
-    first_refusal X86 rest ≡ None → IsUnit X86 rest u → first_past 0 u ≡ None →
-    IfErr res (λ e. IfRefused e (λ r. first_outside [] u ≡ Some r)) → IfErr res (λ e. IfRefused e (AreRefused ts))
-outside_refused (Ok a) ts rest u same hash scanned is within h = tt
-outside_refused (Err fails.Memory) ts rest u same hash scanned is within h = tt
-outside_refused (Err (fails.Refused r)) ts rest u same hash scanned is within h =
-    Outside hash (ap (first_refusal X86) (sym same) ∙ scanned) u (subst (λ x. IsUnit X86 x u) same is) within h
+pub parse_refused : {A : Type 0} (x : Dialect) (res : Result A Fail) (ts rest : List Token) → rest ≡ behind_includes x ts → first_hash (behind_includes x ts) ≡ None →
+    first_refusal x rest ≡ None → IfErr res (λ e. IfRefused e (Refused x rest)) → IfErr res (λ e. IfRefused e (AreRefused x ts))
+parse_refused x (Ok a) ts rest same hash scanned h = tt
+parse_refused x (Err fails.Memory) ts rest same hash scanned h = tt
+parse_refused x (Err (fails.Refused r)) ts rest same hash scanned h =
+    Parsed hash (ap (first_refusal x) (sym same) ∙ scanned) (subst (λ y. Refused x y r) same h)
 
-pub behind_refused : {A : Type 0} (res : Result A Fail) (source : List ℕ) (ts seen : List Token) → Tokens source ts → seen ≡ ts →
-    IfErr res (λ e. IfRefused e (AreRefused seen)) → IfErr res (λ e. IfRefused e (IsFirst source))
-behind_refused (Ok a) source ts seen found same h = tt
-behind_refused (Err fails.Memory) source ts seen found same h = tt
-behind_refused (Err (fails.Refused r)) source ts seen found same h = Behind ts found (subst (λ x. AreRefused x r) same h)
+pub behind_refused : {A : Type 0} (x : Dialect) (res : Result A Fail) (source : List ℕ) (ts seen : List Token) → Tokens source ts → seen ≡ ts →
+    IfErr res (λ e. IfRefused e (AreRefused x seen)) → IfErr res (λ e. IfRefused e (IsUnparsed x source))
+behind_refused x (Ok a) source ts seen found same h = tt
+behind_refused x (Err fails.Memory) source ts seen found same h = tt
+behind_refused x (Err (fails.Refused r)) source ts seen found same h = Behind ts found (subst (λ y. AreRefused x y r) same h)
+
+pub typed : (x : Dialect) (res : Result TypedUnit CheckFail) (source : List ℕ) (u : List External) → IsParsed x source u → IfOk res (λ v. check_unit x u ≡ Ok (view_unit v.unit)) →
+    IfOk res (λ v. HasUnit x source (view_unit v.unit))
+typed x (Ok v) source u is h = record { unit = u; parsed = is; checked = h }
+typed x (Err e) source u is h = tt
+
+pub untyped : (x : Dialect) (res : Result TypedUnit CheckFail) (source : List ℕ) (u : List External) → IsParsed x source u →
+    IfErr res (λ e. lists.IfRefused e (λ list. check_unit x u ≡ Err list)) → IfErr res (λ e. lists.IfRefused e (AreFirst x source))
+untyped x (Ok v) source u is h = tt
+untyped x (Err many.Memory) source u is h = tt
+untyped x (Err (many.Refused list)) source u is h = Checked u is h
+
+pub alone : (x : Dialect) (source : List ℕ) (fail : Fail) (e : CheckFail) → IfRefused fail (IsUnparsed x source) → IsAlone fail e → lists.IfRefused e (AreFirst x source)
+alone x source (fails.Refused r) (many.Refused list) h is = Alone r h is
+alone x source (fails.Refused r) many.Memory h is = tt
+alone x source fails.Memory (many.Refused list) h is = absurd is
+alone x source fails.Memory many.Memory h is = tt

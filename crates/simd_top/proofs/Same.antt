@@ -1,5 +1,6 @@
 -- A unit of the first form and the Neon unit that is written for it have the same functions.
 use Rattle.std.proofs.Common.{◌≡◌, ℕ, List, [], ◌∷◌, ◌++◌, true, ◌&&◌, not, Option, Some, None, map, refl, sym, ◌∙◌, ap}
+use Rattle.c_text.specs.declared.tokens.Dialect.TheVariants.{X86}
 use Rattle.intel_base.specs.Rows as intel
 use Rattle.neon_lane.specs.Rows as neon
 use Rattle.c_tree.specs.Tree.{Tree, Object, Statement, Statements, Declare, Run, Block, If, While, DoWhile, For, Break, Continue, Return, Empty, NoStatements, Then, Definition, External, Function, Table}
@@ -68,12 +69,12 @@ functions_stay seen (Function f ∷ xs) h =
     (function_stays f (split_and (is_function f) (not (is_in seen f.name)) a.0).0, functions_stay (seen ++ f.name ∷ []) xs a.1)
 functions_stay seen (Table o s ∷ xs) h = let a = item_passes seen (Table o s) xs h in absurd (cc)
 
-pub migrated : (source text : List ℕ) (u : List External) → HasUnit source u → text ≡ text_of (moved_unit u) → Migrated source text
-migrated source text u h is = record {
+pub migrated : (source text : List ℕ) (u : List External) → HasUnit X86 source u → first_outside [] u ≡ None → text ≡ text_of (moved_unit u) → Migrated source text
+migrated source text u has form is = record {
   unit = u;
   written_unit = moved_unit u;
-  has_unit = h;
+  has_unit = has;
   is_text = is;
-  again = text_again (moved_unit u) (good_unit [] u h.behind.in_form);
-  same = functions_stay [] u h.behind.in_form;
+  again = text_again (moved_unit u) (good_unit [] u form);
+  same = functions_stay [] u form;
 }

@@ -120,7 +120,7 @@ item_place (Table o is_static) = o.place
 
 -- the refusal of an item that is outside the form: at its name
 abbrev pub outside : External → Refusal
-outside x = record { number = 9; place = item_place x; detail = take 255 (item_name x) }
+outside x = record { number = 18; place = item_place x; detail = take 255 (item_name x) }
 
 -- the first item that is outside the form, behind functions of these names
 abbrev pub first_outside : List (List ℕ) → List External → Option Refusal

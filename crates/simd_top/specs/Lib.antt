@@ -1,10 +1,15 @@
 pub mod Codes
 pub mod Includes
+pub mod Words
 pub mod Rows
 pub mod Form
 pub mod Written
 pub mod NameSets
 pub mod Source
+pub mod Refusals
 pub mod Meaning
 pub mod Migrated
+pub mod Ran
+pub mod Due
 pub mod TopCall
+pub mod Seen

@@ -1,6 +1,7 @@
 -- What a written text owes to its source.
 use Rattle.std.specs.Prelude.{◌≡◌, ℕ, List, [], ◌∷◌, length, map}
 use Rattle.lane_core.specs.Register.{IsRegister}
+use Rattle.c_text.specs.declared.tokens.Dialect.TheVariants.{X86}
 use Rattle.intel_base.specs.Rows as intel
 use Rattle.neon_lane.specs.Rows as neon
 use Rattle.c_tree.specs.Tree.{Definition, External, Function}
@@ -35,11 +36,11 @@ SameFunctions [] [] = Unit {0}
 SameFunctions (Function f ∷ fs) (Function g ∷ gs) = SameFunction f g × SameFunctions fs gs
 SameFunctions _ _ = ⊥
 
--- The source is a unit; the written text is the text of a Neon unit, is read again as that unit, and the functions are the same.
+-- The source is a unit that has types; the written text is the text of a Neon unit, is read again as that unit, and the functions are the same.
 pub record Migrated (source written : List ℕ) : Type 0 where
   pub unit : List External
   pub written_unit : List External
-  pub has_unit : HasUnit source unit
+  pub has_unit : HasUnit X86 source unit
   pub is_text : written ≡ text_of written_unit
   pub again : ReadAgain written_unit
   pub same : SameFunctions unit written_unit

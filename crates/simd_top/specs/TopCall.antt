@@ -1,46 +1,57 @@
 -- What the top call does, status by status. The source tells that it has left `before`, and what is left afterwards is
 -- `after`; the sinks hold `old`, and hold `new` afterwards.
-use Rattle.std.specs.Prelude.{◌≡◌, ◌≤◌, ℕ, List, [], ◌∷◌, length, Option, Some, None, ◌⊎◌, codes}
+use Rattle.std.specs.Prelude.{◌≡◌, ◌≤◌, ℕ, List, [], length, Option, Some, None, ◌⊎◌, codes}
 use Rattle.mig_io.specs.Outside.{Rose, Grew, GrewInPart}
 use Rattle.simd_top.specs.declared.status.Status.{Status}
-use Rattle.simd_top.specs.declared.status.Status.TheVariants.{WriteFault}
-use Rattle.simd_top.specs.declared.top.Due.{Due}
-use Rattle.simd_top.specs.declared.top.Due.TheVariants.{Out, Report}
+use Rattle.simd_top.specs.declared.status.Status.TheVariants.{Done, Undefined, Turns, WriteFault}
+use Rattle.simd_top.specs.declared.due.Due.{Due}
+use Rattle.simd_top.specs.declared.due.Due.TheVariants as due
 use Rattle.simd_top.specs.Migrated.{Migrated}
-use Rattle.simd_top.specs.Source.{source_limit, IsRefused, IsAdmitted}
-
--- the words are `migrate`, alone
-abbrev pub AskToMigrate : List (List ℕ) → Type 0
-AskToMigrate (word ∷ []) = word ≡ codes "migrate"
-AskToMigrate _ = ⊥
+use Rattle.simd_top.specs.Ran.{Ran}
+use Rattle.simd_top.specs.Refusals.{IsRefused, IsAdmitted}
+use Rattle.simd_top.specs.Source.{source_limit}
+use Rattle.simd_top.specs.Words.{Command, Migrate, Run, dialect_of, asked}
 
 abbrev pub usage_line : List ℕ
 usage_line = codes "usage: simdmove migrate [KIND=PRICE].. | profile | run x86|neon NAME TURNS ITEM.. | both NAME TURNS ITEM.. | sample K [migrate]\n"
 
--- The text is the source, migrated, and all of it was read; of a source that doesn't tell its bytes the text is some source, migrated.
-abbrev pub Writes : Option (List ℕ) → Option (List ℕ) → List ℕ → Type 0
-Writes (Some source) after text = (length source ≤ source_limit) × Migrated source text × (after ≡ Some [])
-Writes None after text = (source : List ℕ) × (length source ≤ source_limit) × Migrated source text
+-- what the bytes of a source call for: the text for the output, and the status
+abbrev pub Calls : Command → List ℕ → Status → List ℕ → Type 0
+Calls Migrate source status text = (status ≡ Done) × Migrated source text
+Calls (Run dialect name turns items) source status text = Ran dialect name turns items source status text
 
--- The line says why the source is refused; of a source that doesn't tell its bytes it says why some source is.
-abbrev pub Refuses : Option (List ℕ) → List ℕ → Type 0
-Refuses (Some source) line = IsRefused source line
-Refuses None line = (source : List ℕ) × IsRefused source line
+-- The source calls for the text and the status, and all of it was read; of a source that doesn't tell its bytes some source calls for them.
+abbrev pub Writes : Command → Status → Option (List ℕ) → Option (List ℕ) → List ℕ → Type 0
+Writes c status (Some source) after text = (length source ≤ source_limit (dialect_of c)) × Calls c source status text × (after ≡ Some [])
+Writes c status None after text = (source : List ℕ) × (length source ≤ source_limit (dialect_of c)) × Calls c source status text
+
+-- The lines say why the source is refused; of a source that doesn't tell its bytes they say why some source is.
+abbrev pub Refuses : Command → Option (List ℕ) → List ℕ → Type 0
+Refuses c (Some source) lines = IsRefused c source lines
+Refuses c None lines = (source : List ℕ) × IsRefused c source lines
 
 -- The source tells its bytes, and they are a unit that is admitted.
-abbrev pub Admits : Option (List ℕ) → Type 0
-Admits (Some source) = IsAdmitted source
-Admits None = ⊥
+abbrev pub Admits : Command → Option (List ℕ) → Type 0
+Admits c (Some source) = IsAdmitted c source
+Admits c None = ⊥
+
+-- the words ask for a command, for which the source is admitted
+abbrev pub IsServed : List (List ℕ) → Option (List ℕ) → Type 0
+IsServed words before = (c : Command) × (asked words ≡ Some c) × Admits c before
 
 -- what is due to be written: a text to the output, or lines to the report
-abbrev pub IsDue : Option (List ℕ) → Option (List ℕ) → Due → Type 0
-IsDue before after (Out text) = Writes before after text.items
-IsDue before after (Report line) = Refuses before line.items
+abbrev pub IsDue : Command → Option (List ℕ) → Option (List ℕ) → Due → Type 0
+IsDue c before after (due.Done text) = Writes c Done before after text.items
+IsDue c before after (due.Undefined text) = Writes c Undefined before after text.items
+IsDue c before after (due.Turns text) = Writes c Turns before after text.items
+IsDue c before after (due.Report lines) = Refuses c before lines.items
 
 -- the same of bytes that were read
-abbrev pub IsAnswer : List ℕ → Due → Type 0
-IsAnswer source (Out text) = Migrated source text.items
-IsAnswer source (Report line) = IsRefused source line.items
+abbrev pub IsAnswer : Command → List ℕ → Due → Type 0
+IsAnswer c source (due.Done text) = Calls c source Done text.items
+IsAnswer c source (due.Undefined text) = Calls c source Undefined text.items
+IsAnswer c source (due.Turns text) = Calls c source Turns text.items
+IsAnswer c source (due.Report lines) = IsRefused c source lines.items
 
 -- A sink that held `old` took the text whole and the call ended with this status; or it had a fault and took a proper prefix.
 abbrev pub Ends : Status → Status → List ℕ → Option (List ℕ) → Option (List ℕ) → ℕ → ℕ → Type 0
@@ -50,3 +61,29 @@ Ends result status text old new faults faults_now =
 -- a sink had a fault, and took a proper prefix of the text
 abbrev pub Breaks : List ℕ → Option (List ℕ) → Option (List ℕ) → ℕ → ℕ → Type 0
 Breaks text old new faults faults_now = Rose faults faults_now × GrewInPart old text new
+
+-- the words ask for a command, and the output grew by the text that the source calls for with this status
+abbrev pub Answers : Status → List (List ℕ) → Option (List ℕ) → Option (List ℕ) → Option (List ℕ) → Option (List ℕ) → Type 0
+Answers status words before after old new = (c : Command) × (asked words ≡ Some c) × (text : List ℕ) × Writes c status before after text × Grew old text new
+
+-- the words ask for a command, and the report grew by the lines that say why the source is refused
+abbrev pub Reports : List (List ℕ) → Option (List ℕ) → Option (List ℕ) → Option (List ℕ) → Type 0
+Reports words before old new = (c : Command) × (asked words ≡ Some c) × (lines : List ℕ) × Refuses c before lines × Grew old lines new
+
+-- the words ask for no command
+abbrev pub AsksNothing : List (List ℕ) → Type 0
+AsksNothing words = asked words ≡ None
+
+-- the words ask for a command
+abbrev pub Asks : List (List ℕ) → Type 0
+Asks words = (c : Command) × (asked words ≡ Some c)
+
+-- the words ask for a command, and the output took a proper prefix of the text that the source calls for
+abbrev pub BreaksOut : List (List ℕ) → Option (List ℕ) → Option (List ℕ) → Option (List ℕ) → Option (List ℕ) → ℕ → ℕ → Type 0
+BreaksOut words before after old new faults faults_now =
+    (c : Command) × (asked words ≡ Some c) × (status : Status) × (text : List ℕ) × Writes c status before after text × Breaks text old new faults faults_now
+
+-- the words ask for a command, and the report took a proper prefix of the lines that say why the source is refused
+abbrev pub BreaksReport : List (List ℕ) → Option (List ℕ) → Option (List ℕ) → Option (List ℕ) → ℕ → ℕ → Type 0
+BreaksReport words before old new faults faults_now =
+    (c : Command) × (asked words ≡ Some c) × (lines : List ℕ) × Refuses c before lines × Breaks lines old new faults faults_now

@@ -93,7 +93,8 @@ fn are_name_bytes(bytes: &[u8]) -> bool
     true
 }
 
-fn is_name(bytes: &[u8]) -> bool
+/// Whether it is a name of C.
+pub fn is_name(bytes: &[u8]) -> bool
     ensures { result ≡ is_name bytes.now }
 {
     match bytes {
@@ -271,7 +272,7 @@ fn outside(alloc: Global, item: &Item) -> Result<Refusal, AllocError>
 {
     let detail = Text::new(alloc, shortened(item_name(item).bytes()))?;
     Ok(Refusal {
-        number: 9,
+        number: 18,
         place: item_place(item),
         detail,
     })

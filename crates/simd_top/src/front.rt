@@ -1,22 +1,21 @@
-//! From the bytes of a source to its unit, or its first refusal.
+//! From the bytes of a source to its unit with types, or its refusals.
 
-ghost use Rattle.std.specs.Prelude.{◌≡◌, ◌<◌, ◌≤◌, ◌^◌, length, IfOk, IfErr, Some, None, option_map, []};
-ghost use Rattle.c_text.specs.declared.tokens.Dialect.TheVariants.{X86};
+ghost use Rattle.std.specs.Prelude.{◌≡◌, ◌<◌, ◌≤◌, ◌^◌, length, IfOk, IfErr, Some, None, [], ◌∷◌};
 ghost use Rattle.c_preproc.specs.Scan.{IfRefused, refusal_of, first_refusal};
-ghost use Rattle.c_parse.specs.Items.{IsUnit};
-ghost use Rattle.c_parse.specs.Limits.{first_past, Refused};
 ghost use Rattle.c_tree.specs.View.{view_unit};
+ghost use Rattle.vector_types.specs.Answers.{IfRefused as IfListRefused};
 ghost use Rattle.simd_top.specs.Includes.{behind_includes, first_hash};
-ghost use Rattle.simd_top.specs.Form.{first_outside};
-ghost use Rattle.simd_top.specs.Source.{source_limit, AreUnit, AreRefused, HasUnit, IsFirst, IsAdmitted};
+ghost use Rattle.simd_top.specs.Seen.{IsAlone};
+ghost use Rattle.simd_top.specs.Source.{source_limit, AreUnit, AreRefused, IsParsed, IsUnparsed, HasUnit, AreFirst};
 
-use crate::form::{first_outside, shortened};
+use crate::form::shortened;
 use crate::includes::{behind_includes, first_hash};
 use c_parse::parse;
 use c_preproc::scan;
 use c_text::{Dialect, Fail, Refusal, Text, Token, lex};
 use c_tree::Unit;
-use std::alloc::Global;
+use std::alloc::{AllocError, Global};
+use vector_types::{CheckFail, TypedUnit, check};
 
 fn directive(alloc: Global, token: &Token) -> Fail
     ensures { IfRefused result (λ r. r ≡ refusal_of 9 token.now) }
@@ -32,47 +31,68 @@ fn directive(alloc: Global, token: &Token) -> Fail
 }
 
 // What is left of the tokens behind their include lines, which have no directive.
-fn past_includes(alloc: Global, tokens: &[Token]) -> Result<&[Token], Fail>
-    ensures rest { IfOk result (λ rest. rest.now ≡ behind_includes tokens.now) }
-    ensures ok { IfOk result (λ rest. first_hash (behind_includes tokens.now) ≡ None) }
-    ensures refused { IfErr result (λ e. IfRefused e (AreRefused tokens.now)) }
+fn past_includes(alloc: Global, dialect: Dialect, tokens: &[Token]) -> Result<&[Token], Fail>
+    ensures rest { IfOk result (λ rest. rest.now ≡ behind_includes dialect tokens.now) }
+    ensures ok { IfOk result (λ rest. first_hash (behind_includes dialect tokens.now) ≡ None) }
+    ensures refused { IfErr result (λ e. IfRefused e (AreRefused dialect tokens.now)) }
 {
-    let rest = behind_includes(tokens);
+    let rest = behind_includes(dialect, tokens);
     match first_hash(rest) {
         Some(token) => Err(directive(alloc, token)),
         None => Ok(rest),
     }
 }
 
-// The unit, where it is of the first form.
-fn in_form(alloc: Global, unit: Unit) -> Result<Unit, Fail>
-    ensures unit { IfOk result (λ u. u ≡ unit) }
-    ensures form { IfOk result (λ u. first_outside [] (view_unit u) ≡ None) }
-    ensures refused { IfErr result (λ e. IfRefused e (λ r. first_outside [] (view_unit unit) ≡ Some r)) }
+// The unit of tokens behind their include lines.
+#[tactic(auto, using(crate::proofs::Refused::parse_refused))]
+fn parsed(alloc: Global, dialect: Dialect, tokens: &[Token]) -> Result<Unit, Fail>
+    ensures unit { IfOk result (λ u. AreUnit dialect tokens.now (view_unit u)) }
+    ensures refused { IfErr result (λ e. IfRefused e (AreRefused dialect tokens.now)) }
 {
-    match first_outside(alloc, unit.items.as_slice())? {
-        Some(refusal) => Err(Fail::Refused(refusal)),
-        None => Ok(unit),
+    let rest = past_includes(alloc, dialect, tokens)?;
+    scan(alloc, rest, dialect)?;
+    parse(alloc, rest, dialect)
+}
+
+// The unit of a source, whose types aren't judged yet.
+fn read(alloc: Global, dialect: Dialect, source: &[u8]) -> Result<Unit, Fail>
+    requires { length source.now ≤ source_limit dialect }
+    ensures unit { IfOk result (λ u. IsParsed dialect source.now (view_unit u)) }
+    ensures refused { IfErr result (λ e. IfRefused e (IsUnparsed dialect source.now)) }
+{
+    let tokens = lex(alloc, source)?;
+    parsed(alloc, dialect, tokens.as_slice())
+}
+
+fn one(alloc: Global, refusal: Refusal) -> Result<Vec<Refusal>, AllocError>
+    ensures { IfOk result (λ list. list.items ≡ refusal ∷ []) }
+{
+    let mut list = Vec::new(alloc);
+    list.push(refusal)?;
+    Ok(list)
+}
+
+fn alone(alloc: Global, fail: Fail) -> CheckFail
+    ensures { IsAlone fail result }
+{
+    match fail {
+        Fail::Memory => CheckFail::Memory,
+        Fail::Refused(refusal) => match one(alloc, refusal) {
+            Ok(list) => CheckFail::Refused(list),
+            Err(_) => CheckFail::Memory,
+        },
     }
 }
 
-// The unit of tokens behind their include lines.
-fn parsed(alloc: Global, tokens: &[Token]) -> Result<Unit, Fail>
-    ensures unit { IfOk result (λ u. AreUnit tokens.now (view_unit u)) }
-    ensures refused { IfErr result (λ e. IfRefused e (AreRefused tokens.now)) }
+/// The unit of a source with its types, or the refusals of the first phase that fails.
+#[tactic(auto, using(crate::proofs::Refused::typed, crate::proofs::Refused::alone))]
+pub fn unit_of(alloc: Global, dialect: Dialect, source: &[u8]) -> Result<TypedUnit, CheckFail>
+    requires { length source.now ≤ source_limit dialect }
+    ensures unit { IfOk result (λ v. HasUnit dialect source.now (view_unit v.unit)) }
+    ensures refused { IfErr result (λ e. IfListRefused e (AreFirst dialect source.now)) }
 {
-    let rest = past_includes(alloc, tokens)?;
-    scan(alloc, rest, Dialect::X86)?;
-    let unit = parse(alloc, rest, Dialect::X86)?;
-    in_form(alloc, unit)
-}
-
-/// The unit of a source, or its first refusal.
-pub fn unit_of(alloc: Global, source: &[u8]) -> Result<Unit, Fail>
-    requires { length source.now ≤ source_limit }
-    ensures unit { IfOk result (λ u. HasUnit source.now (view_unit u)) }
-    ensures refused { IfErr result (λ e. IfRefused e (IsFirst source.now)) }
-{
-    let tokens = lex(alloc, source)?;
-    parsed(alloc, tokens.as_slice())
+    match read(alloc, dialect, source) {
+        Ok(unit) => check(alloc, &unit, dialect),
+        Err(fail) => Err(alone(alloc, fail)),
+    }
 }

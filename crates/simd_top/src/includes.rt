@@ -5,9 +5,9 @@ ghost use Rattle.std.specs.List.{list_any};
 ghost use Rattle.std.specs.Option.{option_copied};
 ghost use Rattle.simd_top.specs.Includes.{headers, says, begins_directive, follows, adjoins, names_header, opens_include, is_header, line_ends, is_line, behind_includes, first_hash};
 
-use c_text::Token;
+use c_text::{Dialect, Token};
 
-static HEADERS: [&[u8]; 11] = [
+static X86: [&[u8]; 11] = [
     b"emmintrin",
     b"immintrin",
     b"pmmintrin",
@@ -20,6 +20,8 @@ static HEADERS: [&[u8]; 11] = [
     b"x86intrin",
     b"xmmintrin",
 ];
+
+static NEON: [&[u8]; 5] = [b"arm_neon", b"stdalign", b"stdbool", b"stddef", b"stdint"];
 
 fn says(text: &[u8], token: &Token) -> bool
     ensures { result ≡ says text.now token.now }
@@ -51,10 +53,19 @@ fn is_among(name: &[u8], names: &[&[u8]]) -> bool
     names.iter().any(|n| name == *n)
 }
 
-fn names_header(token: &Token) -> bool
-    ensures { result ≡ names_header token.now }
+fn is_of_dialect(dialect: Dialect, name: &[u8]) -> bool
+    ensures { result ≡ list_any (bytes_eq name.now) (headers dialect) }
 {
-    !token.spaced && !token.first && is_among(token.text.bytes(), &HEADERS)
+    match dialect {
+        Dialect::X86 => is_among(name, &X86),
+        Dialect::Neon => is_among(name, &NEON),
+    }
+}
+
+fn names_header(dialect: Dialect, token: &Token) -> bool
+    ensures { result ≡ names_header dialect token.now }
+{
+    !token.spaced && !token.first && is_of_dialect(dialect, token.text.bytes())
 }
 
 fn opens_include(hash: &Token, word: &Token, less: &Token) -> bool
@@ -63,10 +74,10 @@ fn opens_include(hash: &Token, word: &Token, less: &Token) -> bool
     begins_directive(hash) && follows(b"include", word) && follows(b"<", less)
 }
 
-fn is_header(name: &Token, dot: &Token, h: &Token, close: &Token) -> bool
-    ensures { result ≡ is_header name.now dot.now h.now close.now }
+fn is_header(dialect: Dialect, name: &Token, dot: &Token, h: &Token, close: &Token) -> bool
+    ensures { result ≡ is_header dialect name.now dot.now h.now close.now }
 {
-    names_header(name) && adjoins(b".", dot) && adjoins(b"h", h) && adjoins(b">", close)
+    names_header(dialect, name) && adjoins(b".", dot) && adjoins(b"h", h) && adjoins(b">", close)
 }
 
 fn line_ends(tokens: &[Token]) -> bool
@@ -79,6 +90,7 @@ fn line_ends(tokens: &[Token]) -> bool
 }
 
 fn is_line(
+    dialect: Dialect,
     hash: &Token,
     word: &Token,
     less: &Token,
@@ -88,18 +100,18 @@ fn is_line(
     close: &Token,
     rest: &[Token],
 ) -> bool
-    ensures { result ≡ is_line hash.now word.now less.now name.now dot.now h.now close.now rest.now }
+    ensures { result ≡ is_line dialect hash.now word.now less.now name.now dot.now h.now close.now rest.now }
 {
-    opens_include(hash, word, less) && is_header(name, dot, h, close) && line_ends(rest)
+    opens_include(hash, word, less) && is_header(dialect, name, dot, h, close) && line_ends(rest)
 }
 
-/// What is left of the tokens behind the lines at their start that include a header of the x86 dialect.
-pub fn behind_includes(tokens: &[Token]) -> &[Token]
-    ensures { result.now ≡ behind_includes tokens.now }
+/// What is left of the tokens behind the lines at their start that include a header of the dialect.
+pub fn behind_includes(dialect: Dialect, tokens: &[Token]) -> &[Token]
+    ensures { result.now ≡ behind_includes dialect tokens.now }
 {
     let mut left = tokens;
     while let [hash, word, less, name, dot, h, close, rest @ ..] = left {
-        if !is_line(hash, word, less, name, dot, h, close, rest) {
+        if !is_line(dialect, hash, word, less, name, dot, h, close, rest) {
             return left;
         }
         left = rest;

@@ -1,9 +1,10 @@
 //! The top call of the tool: words, a source and two sinks.
 //!
-//! Today it migrates units of one form: functions that take registers of 16 bytes and return a nest of five rows. A source of another form is
-//! refused.
+//! It runs a function of any unit of either dialect that the profile admits. Today it migrates units of one form: functions that take registers
+//! of 16 bytes and return a nest of five rows. An admitted unit of another form is refused.
 #![tactic(auto)]
 
+mod due;
 mod form;
 mod front;
 mod includes;
@@ -11,10 +12,12 @@ mod moving;
 mod names;
 mod refusals;
 mod rows;
+mod running;
 mod status;
 #[cfg(test)]
 mod tests;
 mod top;
+mod words;
 
 pub use status::Status;
 pub use top::simdmove;

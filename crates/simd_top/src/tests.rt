@@ -56,7 +56,7 @@ fn migrated(alloc: Global, source: &[u8]) -> Result<Ended, AllocError> {
 }
 
 // Sources and what comes: the text behind the include lines, or the line of the report.
-const ROWS: [(&[u8], Status, &[u8]); 27] = [
+const ROWS: [(&[u8], Status, &[u8]); 26] = [
     (b"", Status::Done, b""),
     (b" \t\n", Status::Done, b""),
     (b"#include <emmintrin.h>", Status::Done, b""),
@@ -130,47 +130,42 @@ const ROWS: [(&[u8], Status, &[u8]); 27] = [
     (
         b"int f(void) { return 0; }\n",
         Status::Refused,
-        b"1:5: 9 Syntax f\n",
+        b"1:5: 18 OutsideProfile f\n",
     ),
     (
-        b"__m128i f(__m128i b){return c;}",
+        b"__m128i f(__m128i a){return a;}\n;static __m128i g(__m128i b){return b;}",
         Status::Refused,
-        b"1:9: 9 Syntax f\n",
-    ),
-    (
-        b"static __m128i f(__m128i b){return b;}",
-        Status::Refused,
-        b"1:16: 9 Syntax f\n",
+        b"2:17: 18 OutsideProfile g\n",
     ),
     (
         b"__m128i f(const __m128i b){return b;}",
         Status::Refused,
-        b"1:9: 9 Syntax f\n",
+        b"1:9: 18 OutsideProfile f\n",
+    ),
+    (
+        b"static __m128i f(__m128i b){return b;}\n__m128i g(__m128i b){return c;}\n",
+        Status::Refused,
+        b"2:29: 10 UnknownName c\n",
+    ),
+    (
+        b"unsigned f(unsigned c, unsigned char b) { return _mm_crc32_u8(c, b); }\nint g(int x) { return _mm_popcnt_u32(x); }\n",
+        Status::Refused,
+        b"1:50: 13 UnknownIntrinsic _mm_crc32_u8\n2:23: 13 UnknownIntrinsic _mm_popcnt_u32\n",
     ),
     (
         b"__m128i f(__m128i b, __m128i b){return b;}",
         Status::Refused,
-        b"1:9: 9 Syntax f\n",
+        b"1:30: 11 TypeFault b\n",
     ),
     (
         b"__m128i f(__m128i b){return b;}\n__m128i f(__m128i b){return b;}",
         Status::Refused,
-        b"2:9: 9 Syntax f\n",
+        b"2:9: 11 TypeFault f\n",
     ),
     (
-        b"__m128i mg_f(__m128i b){return b;}",
+        b"__m128i mg_f(__m128i b){return b;}\n__m128i f(__m128i NULL){return NULL;}\n__m128i vaddq_u8(__m128i b){return b;}",
         Status::Refused,
-        b"1:9: 9 Syntax mg_f\n",
-    ),
-    (
-        b"__m128i f(__m128i NULL){return NULL;}",
-        Status::Refused,
-        b"1:9: 9 Syntax f\n",
-    ),
-    (
-        b"__m128i vaddq_u8(__m128i b){return b;}",
-        Status::Refused,
-        b"1:9: 9 Syntax vaddq_u8\n",
+        b"1:9: 12 ReservedName mg_f\n2:19: 12 ReservedName NULL\n3:9: 12 ReservedName vaddq_u8\n",
     ),
 ];
 
@@ -186,6 +181,177 @@ fn sources_are_migrated_or_refused(rt: HostRuntime) -> Result<(), Fail> {
             assert_eq!(rt; ended.out.len(), 0);
             assert_eq!(rt; ended.report.as_slice(), text);
         }
+    }
+    Ok(())
+}
+
+const LOOP: &[u8] = b"int f(void) { int s = 0; for (int i = 0; i < 5; i++) s += i; return s; }\n";
+
+const TABLE: &[u8] =
+    b"const unsigned char t[2] = {7};\nconst unsigned char *g(unsigned char *p) { *p = t[0]; return t + 1; }\n";
+
+const LOAD: &[u8] = b"__m128i f(const __m128i *p) { return _mm_loadu_si128(p); }\n";
+
+// Words for a run, the source, and what comes.
+const RUNS: [(&[&str], &[u8], Status, &[u8]); 19] = [
+    (
+        &["run", "x86", "f", "5"],
+        LOOP,
+        Status::Done,
+        b"value int 10\n",
+    ),
+    (&["run", "x86", "f", "4"], LOOP, Status::Turns, b"turns\n"),
+    (
+        &["run", "neon", "f", "5"],
+        LOOP,
+        Status::Done,
+        b"value int 10\n",
+    ),
+    (
+        &["run", "x86", "g", "5"],
+        LOOP,
+        Status::Refused,
+        b"1:1: 21 NoFunction g\n",
+    ),
+    (
+        &["run", "x86", "f", "5", "int:1"],
+        LOOP,
+        Status::Refused,
+        b"1:1: 22 ArgumentsDontFit f\n",
+    ),
+    (
+        &[
+            "run",
+            "x86",
+            "f",
+            "0",
+            "vec:00000000000000000000000000000001",
+            "vec:ff0000000000000000000000000000ff",
+        ],
+        ADD,
+        Status::Done,
+        b"value vec ff000000000000000000000000000000\n",
+    ),
+    (
+        &[
+            "run",
+            "neon",
+            "f",
+            "0",
+            "vec:00000000000000000000000000000001",
+            "vec:ff0000000000000000000000000000ff",
+        ],
+        ADDED,
+        Status::Done,
+        b"value vec ff000000000000000000000000000000\n",
+    ),
+    (
+        &[
+            "run",
+            "neon",
+            "f",
+            "0",
+            "vec:00000000000000000000000000000001",
+            "vec:ff0000000000000000000000000000ff",
+        ],
+        ADD,
+        Status::Refused,
+        b"1:1: 9 Syntax #\n",
+    ),
+    (
+        &["run", "x86", "f", "0"],
+        b"#include <arm_neon.h>\n",
+        Status::Refused,
+        b"1:1: 9 Syntax #\n",
+    ),
+    (
+        &["run", "x86", "g", "0", "space:1:3", "at:0:1"],
+        TABLE,
+        Status::Done,
+        b"value table t 1\nblock 0 --07--\n",
+    ),
+    (
+        &["run", "x86", "g", "0", "space:1:3", "at:0:3"],
+        TABLE,
+        Status::Undefined,
+        b"undefined\n",
+    ),
+    (
+        &["run", "x86", "g", "0", "space:1:3", "at:0:4"],
+        TABLE,
+        Status::Refused,
+        b"1:1: 22 ArgumentsDontFit g\n",
+    ),
+    (
+        &["run", "x86", "g", "0", "block:1:ro:0A", "null"],
+        TABLE,
+        Status::Undefined,
+        b"undefined\n",
+    ),
+    (
+        &[
+            "run",
+            "x86",
+            "f",
+            "0",
+            "block:16:ro:000102030405060708090a0b0c0d0e0f10",
+            "at:0:1",
+        ],
+        LOAD,
+        Status::Done,
+        b"value vec 0102030405060708090a0b0c0d0e0f10\nblock 0 000102030405060708090a0b0c0d0e0f10\n",
+    ),
+    (
+        &[
+            "run",
+            "x86",
+            "f",
+            "0",
+            "block:16:ro:000102030405060708090a0b0c0d0e0f10",
+            "at:0:2",
+        ],
+        LOAD,
+        Status::Undefined,
+        b"undefined\n",
+    ),
+    (
+        &["run", "x86", "f", "0", "int:255", "int:-1"],
+        b"void f(unsigned char x, signed char y) { x = y; }\n",
+        Status::Done,
+        b"value none\n",
+    ),
+    (
+        &["run", "x86", "f", "0", "int:256", "int:-1"],
+        b"void f(unsigned char x, signed char y) { x = y; }\n",
+        Status::Refused,
+        b"1:1: 22 ArgumentsDontFit f\n",
+    ),
+    (
+        &["run", "x86", "f", "0"],
+        b"int mg_f(void) { return 0; }\nint f(void) { return y; }\n",
+        Status::Refused,
+        b"1:5: 12 ReservedName mg_f\n2:22: 10 UnknownName y\n",
+    ),
+    (
+        &["run", "neon", "f", "0"],
+        b"int mg_f(void) { return 3; }\nint f(void) { return mg_f(); }\n",
+        Status::Done,
+        b"value int 3\n",
+    ),
+];
+
+#[test]
+fn functions_run_in_either_dialect(rt: HostRuntime) -> Result<(), Fail> {
+    for (words, source, status, text) in RUNS {
+        let ended = run(rt.alloc(), words, source, &[], &[])?;
+        assert_eq!(rt; ended.status, status);
+        let (full, empty) = if status == Status::Refused {
+            (ended.report, ended.out)
+        } else {
+            (ended.out, ended.report)
+        };
+        assert_eq!(rt; full.as_slice(), text);
+        assert_eq!(rt; empty.len(), 0);
     }
     Ok(())
 }
@@ -207,12 +373,23 @@ fn faults_have_a_status(rt: HostRuntime) -> Result<(), Fail> {
 
 #[test]
 fn other_words_are_answered_by_the_usage_line(rt: HostRuntime) -> Result<(), Fail> {
-    let lists: [&[&str]; 5] = [
+    let lists: [&[&str]; 16] = [
         &[],
         &["migrate", "tbl=1", "tbl=2"],
         &["sample", "0"],
         &["--help"],
         &["Migrate"],
+        &["run"],
+        &["run", "x86", "f"],
+        &["run", "arm", "f", "0"],
+        &["run", "x86", "1f", "0"],
+        &["run", "x86", "", "0"],
+        &["run", "x86", "f", "01"],
+        &["run", "x86", "f", "1000001"],
+        &["run", "x86", "f", "0", "int:-0"],
+        &["run", "x86", "f", "0", "block:3:rw:"],
+        &["run", "neon", "f", "0", "space:1:1048576", "block:1:ro:00"],
+        &["run", "neon", "f", "0", "vec:0"],
     ];
     for words in lists {
         let ended = run(rt.alloc(), words, ADD, &[1], &[])?;

@@ -1,82 +1,69 @@
 //! The top call: words, a source, and two sinks.
 
-ghost use Rattle.std.specs.Prelude.{◌≡◌, ◌≢◌, ◌≤◌, ◌⊎◌, ℕ, List, None, map, length, IfOk, IsErrOf, OnErr, Err, string_bytes, IsTrue, ◌↔◌};
+ghost use Rattle.std.specs.Prelude.{◌≡◌, ◌≤◌, ◌⊎◌, ◌≢◌, map, length, IfOk, IsErrOf, OnErr, Err, string_bytes};
 ghost use Rattle.mig_io.specs.Outside.{Rose, Grew};
-ghost use Rattle.simd_top.specs.Source.{source_limit, IsRefused};
-ghost use Rattle.simd_top.specs.Written.{moved_unit};
-ghost use Rattle.c_print.specs.Text.{text_of};
-ghost use Rattle.c_tree.specs.View.{view_unit};
-ghost use Rattle.simd_top.specs.TopCall.{AskToMigrate, usage_line, Writes, Refuses, Admits, IsDue, IsAnswer, Ends, Breaks};
+ghost use Rattle.simd_top.specs.Seen.{command_of};
+ghost use Rattle.simd_top.specs.Source.{source_limit};
+ghost use Rattle.simd_top.specs.TopCall.{usage_line, IsServed, IsDue, IsAnswer, Ends, Breaks, Answers, Reports, AsksNothing, Asks, BreaksOut, BreaksReport};
+ghost use Rattle.simd_top.specs.Words.{FitsForm, dialect_of};
 
+use crate::due::{Due, due_for};
 use crate::front::unit_of;
-use crate::moving::moved_unit;
-use crate::refusals::{line_of, too_long_line};
+use crate::refusals::line_at_the_start;
 use crate::status::Status;
-use c_print::print;
-use c_text::Fail;
-use c_tree::Unit;
+use crate::words::{Command, asked};
+use c_text::Dialect;
 use mig_io::{ReadFail, Sink, Source, read_all, write_all};
-use std::alloc::{AllocError, Global};
-
-/// The greatest number of bytes that a source may have.
-pub const SOURCE_LIMIT: usize = 1_048_576;
+use migrate_report::refusal_lines;
+use std::alloc::Global;
+use vector_types::CheckFail;
 
 const USAGE: &[u8] =
     b"usage: simdmove migrate [KIND=PRICE].. | profile | run x86|neon NAME TURNS ITEM.. | both NAME TURNS ITEM.. | sample K [migrate]\n";
 
-// What is due to be written: the text that a source is migrated to, or the lines that say why it is refused.
-#[derive(Drop)]
-enum Due {
-    Out(Vec<u8>),
-    Report(Vec<u8>),
-}
-
-fn asks_to_migrate(words: &[String]) -> bool
-    ensures { IsTrue result ↔ AskToMigrate (map (λ w. string_bytes w) words.now) }
+// The greatest number of bytes that a source of the dialect may have.
+fn source_limit(dialect: Dialect) -> usize
+    ensures { result ≡ source_limit dialect }
 {
-    match words.split_first() {
-        Some((word, others)) => others.is_empty() && word.as_str() == "migrate",
-        None => false,
+    match dialect {
+        Dialect::X86 => 1_048_576,
+        Dialect::Neon => 16_777_216,
     }
 }
 
-// The text of the Neon unit that is written for a unit.
-fn written(alloc: Global, unit: &Unit) -> Result<Vec<u8>, AllocError>
-    ensures { IfOk result (λ text. text.items ≡ text_of (moved_unit (view_unit unit.now))) }
-{
-    let moved = moved_unit(alloc, unit)?;
-    print(alloc, &moved)
-}
-
 // What is due for the bytes of a source.
-fn answer(alloc: Global, source: &[u8]) -> Result<Due, ReadFail>
-    requires { length source.now ≤ source_limit }
-    ensures due { IfOk result (λ due. IsAnswer source.now due) }
+#[tactic(auto, using(crate::proofs::Answering::due_answers))]
+fn answer(alloc: Global, command: Command<'_>, source: &[u8]) -> Result<Due, ReadFail>
+    requires form { FitsForm (command_of command) }
+    requires within { length source.now ≤ source_limit (dialect_of (command_of command)) }
+    ensures due { IfOk result (λ due. IsAnswer (command_of command.entry) source.now due) }
     ensures memory_alone { OnErr result (result ≡ Err ReadFail.Memory) }
 {
-    match unit_of(alloc, source) {
+    match unit_of(alloc, command.dialect(), source) {
         Ok(unit) => {
-            let text = written(alloc, &unit)?;
-            Ok(Due::Out(text))
+            let due = due_for(alloc, command, &unit)?;
+            Ok(due)
         }
-        Err(Fail::Memory) => Err(ReadFail::Memory),
-        Err(Fail::Refused(refusal)) => {
-            let line = line_of(alloc, &refusal)?;
-            Ok(Due::Report(line))
+        Err(CheckFail::Memory) => Err(ReadFail::Memory),
+        Err(CheckFail::Refused(list)) => {
+            let lines = refusal_lines(alloc, list.as_slice())?;
+            Ok(Due::Report(lines))
         }
     }
 }
 
 // What is due for a source.
-fn made_of<S: Source>(alloc: Global, source: &mut S) -> Result<Due, ReadFail>
-    ensures due { IfOk result (λ due. IsDue (S.left source.old) (S.left source.new) due) }
+#[tactic(auto, using(crate::proofs::Told::long_due))]
+fn made_of<S: Source>(alloc: Global, command: Command<'_>, source: &mut S) -> Result<Due, ReadFail>
+    requires { FitsForm (command_of command) }
+    ensures due { IfOk result (λ due. IsDue (command_of command.entry) (S.left source.old) (S.left source.new) due) }
     ensures fault { IsErrOf result ReadFail.Fault → Rose (S.faults source.old) (S.faults source.new) }
     ensures read { IsErrOf result ReadFail.TooLong → ⊥ }
 {
-    match read_all(alloc, source, SOURCE_LIMIT) {
-        Ok(bytes) => answer(alloc, &bytes),
+    match read_all(alloc, source, source_limit(command.dialect())) {
+        Ok(bytes) => answer(alloc, command, &bytes),
         Err(ReadFail::TooLong) => {
-            let line = too_long_line(alloc)?;
+            let line = line_at_the_start(alloc, 1, b"source")?;
             Ok(Due::Report(line))
         }
         Err(fail) => Err(fail),
@@ -93,10 +80,12 @@ fn finish<K: Sink>(sink: &mut K, text: &[u8], status: Status) -> Status
     }
 }
 
-/// Does what the words ask for: reads the source, and writes the migrated unit to `out`, or why there is none to `report`.
+/// Does what the words ask for: reads the source, and writes the text that is due to `out`, or why there is none to `report`.
 ///
-/// The words that are built are `migrate` alone. Everything is made before the first byte is written, and only one of the
-/// sinks is written to. Memory may run out in place of every status but `Usage` and `WriteFault`; no clause says when.
+/// The words that are built are `migrate` alone, and `run` with a dialect, a name, a bound on turns and items. Everything is made before the
+/// first byte is written, and only one of the sinks is written to. Memory may run out in place of every status but `Usage` and
+/// `WriteFault`; no clause says when.
+#[tactic(auto, using(crate::proofs::Excluded::served_stays))]
 pub fn simdmove<S: Source, O: Sink, E: Sink>(
     alloc: Global,
     words: &[String],
@@ -104,48 +93,52 @@ pub fn simdmove<S: Source, O: Sink, E: Sink>(
     out: &mut O,
     report: &mut E,
 ) -> Status
-    // The unit is migrated: `out` grew by the text, which is a Neon unit of the same functions.
-    ensures done { result ≡ Status.Done → AskToMigrate (map (λ w. string_bytes w) words.now) × (report.new ≡ report.old)
-        × (text : List ℕ) × Writes (S.left source.old) (S.left source.new) text × Grew (O.held out.old) text (O.held out.new) }
+    // The unit is migrated, and `out` grew by the text, which is a Neon unit of the same functions; or its function ran, and `out` grew
+    // by the text that tells its value and the memory.
+    ensures done { result ≡ Status.Done → (report.new ≡ report.old)
+        × Answers Status.Done (map (λ w. string_bytes w) words.now) (S.left source.old) (S.left source.new) (O.held out.old) (O.held out.new) }
 
-    // The source is refused: `report` grew by the line that is due.
-    ensures refused { result ≡ Status.Refused → AskToMigrate (map (λ w. string_bytes w) words.now) × (out.new ≡ out.old)
-        × (line : List ℕ) × Refuses (S.left source.old) line × Grew (E.held report.old) line (E.held report.new) }
+    // The function ran, and has no defined outcome; or it would spend more turns than the bound.
+    ensures undefined { result ≡ Status.Undefined → (report.new ≡ report.old)
+        × Answers Status.Undefined (map (λ w. string_bytes w) words.now) (S.left source.old) (S.left source.new) (O.held out.old) (O.held out.new) }
+    ensures turns { result ≡ Status.Turns → (report.new ≡ report.old)
+        × Answers Status.Turns (map (λ w. string_bytes w) words.now) (S.left source.old) (S.left source.new) (O.held out.old) (O.held out.new) }
+
+    // The source is refused: `report` grew by the lines that are due.
+    ensures refused { result ≡ Status.Refused → (out.new ≡ out.old)
+        × Reports (map (λ w. string_bytes w) words.now) (S.left source.old) (E.held report.old) (E.held report.new) }
 
     // The words are others: the source isn't read.
-    ensures usage { result ≡ Status.Usage → ¬ AskToMigrate (map (λ w. string_bytes w) words.now)
+    ensures usage { result ≡ Status.Usage → AsksNothing (map (λ w. string_bytes w) words.now)
         × (source.new ≡ source.old) × (out.new ≡ out.old) × Grew (E.held report.old) usage_line (E.held report.new) }
 
-    ensures read_fault { result ≡ Status.ReadFault → AskToMigrate (map (λ w. string_bytes w) words.now)
+    ensures read_fault { result ≡ Status.ReadFault → Asks (map (λ w. string_bytes w) words.now)
         × (out.new ≡ out.old) × (report.new ≡ report.old) × Rose (S.faults source.old) (S.faults source.new) }
 
     // The sink of the due text had a fault, and took a proper prefix of that text; the other is unchanged.
     ensures write_fault { result ≡ Status.WriteFault →
-        (¬ AskToMigrate (map (λ w. string_bytes w) words.now) × (source.new ≡ source.old) × (out.new ≡ out.old)
+        (AsksNothing (map (λ w. string_bytes w) words.now) × (source.new ≡ source.old) × (out.new ≡ out.old)
         × Breaks usage_line (E.held report.old) (E.held report.new) (E.faults report.old) (E.faults report.new))
-        ⊎ ((AskToMigrate (map (λ w. string_bytes w) words.now) × (out.new ≡ out.old) × (line : List ℕ) × Refuses (S.left source.old) line
-        × Breaks line (E.held report.old) (E.held report.new) (E.faults report.old) (E.faults report.new))
-        ⊎ (AskToMigrate (map (λ w. string_bytes w) words.now) × (report.new ≡ report.old) × (text : List ℕ) × Writes (S.left source.old) (S.left source.new) text
-        × Breaks text (O.held out.old) (O.held out.new) (O.faults out.old) (O.faults out.new))) }
+        ⊎ (((out.new ≡ out.old)
+        × BreaksReport (map (λ w. string_bytes w) words.now) (S.left source.old) (E.held report.old) (E.held report.new) (E.faults report.old) (E.faults report.new))
+        ⊎ ((report.new ≡ report.old)
+        × BreaksOut (map (λ w. string_bytes w) words.now) (S.left source.old) (S.left source.new) (O.held out.old) (O.held out.new) (O.faults out.old) (O.faults out.new))) }
 
-    ensures no_memory { result ≡ Status.NoMemory → AskToMigrate (map (λ w. string_bytes w) words.now)
+    ensures no_memory { result ≡ Status.NoMemory → Asks (map (λ w. string_bytes w) words.now)
         × (out.new ≡ out.old) × (report.new ≡ report.old) }
 
-    // Nothing is run.
-    ensures undefined { result ≢ Status.Undefined }
-    ensures turns { result ≢ Status.Turns }
-
-    // An admitted unit isn't refused: without faults it is migrated, unless memory runs out.
-    ensures admitted { Admits (S.left source.old) → result ≢ Status.Refused }
+    // An admitted unit isn't refused: without faults it is migrated, or its function runs, unless memory runs out.
+    ensures admitted { IsServed (map (λ w. string_bytes w) words.now) (S.left source.old) → result ≢ Status.Refused }
 {
-    if asks_to_migrate(words) {
-        match made_of(alloc, source) {
-            Ok(Due::Out(text)) => finish(out, &text, Status::Done),
-            Ok(Due::Report(line)) => finish(report, &line, Status::Refused),
+    match asked(words) {
+        None => finish(report, USAGE, Status::Usage),
+        Some(command) => match made_of(alloc, command, source) {
+            Ok(Due::Done(text)) => finish(out, &text, Status::Done),
+            Ok(Due::Undefined(text)) => finish(out, &text, Status::Undefined),
+            Ok(Due::Turns(text)) => finish(out, &text, Status::Turns),
+            Ok(Due::Report(lines)) => finish(report, &lines, Status::Refused),
             Err(ReadFail::Fault) => Status::ReadFault,
             Err(_) => Status::NoMemory,
-        }
-    } else {
-        finish(report, USAGE, Status::Usage)
+        },
     }
 }

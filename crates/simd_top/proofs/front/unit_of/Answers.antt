@@ -1,5 +1,6 @@
-use Rattle.simd_top.proofs.Refused.{behind_refused}
+use Rattle.c_tree.specs.View.{view_unit}
+use Rattle.simd_top.proofs.Refused.{untyped}
 use Rattle.simd_top.proofs.front.unit_of.Goals as goal
 
-pub returns-clause-refused : goal.returns-clause-refused
-returns-clause-refused c = behind_refused c.parsed.result c.args.source.now c.in_ok-tokens.tokens.items c.as_slice.result.now c.in_ok-tokens.ensures.found c.as_slice.ensures.value c.parsed.ensures.refused
+pub returns-in-Ok-clause-refused : goal.returns-in-Ok-clause-refused
+returns-in-Ok-clause-refused c = untyped c.args.dialect c.check.result c.args.source.now (view_unit c.in-Ok.unit) c.in-Ok.ensures.unit c.check.ensures.refused

@@ -1,0 +1,9 @@
+-- Words that are too few.
+use Rattle.std.proofs.Common.{◌≡◌, ◌<◌, List, [], ◌∷◌, length, map, None, refl, arith, String, Global, string_bytes}
+use Rattle.simd_top.specs.Words.{asked_to_run}
+
+pub few : (words : List (String Global)) → length words < 3 → None ≡ asked_to_run (map (λ w. string_bytes w) words)
+few [] h = refl
+few (a ∷ []) h = refl
+few (a ∷ b ∷ []) h = refl
+few (a ∷ b ∷ c ∷ rest) h = absurd (omega (arith, h))
