@@ -10,7 +10,7 @@ import os, subprocess, tempfile, time
 TURNS = (250000, 1000000)
 HEAD = "#include <emmintrin.h>\n"
 LOOPS = {
-    "sum": "int f(int n) { int s = 0; for (int i = 0; i < n; i++) s += i ^ 5; return s; }\n",
+    "sum": "unsigned f(int n) { unsigned s = 0; for (int i = 0; i < n; i++) s += i ^ 5; return s; }\n",
     "copy": "int f(int n) { unsigned char a[64] = {1}; unsigned char b[64] = {2}; for (int i = 0; i < n; i++) b[i & 63] = a[(i + 1) & 63]; return b[63]; }\n",
     "rows": "int f(int n) { unsigned char a[64] = {1}; for (int i = 0; i < n; i++) _mm_storeu_si128((__m128i *)(a + (i & 31)), _mm_add_epi8(_mm_loadu_si128((const __m128i *)a), _mm_loadu_si128((const __m128i *)(a + 16)))); return a[9]; }\n",
     "calls": "static int g(int x) { return x + 1; }\nint f(int n) { int s = 0; while (s < n) s = g(s); return s; }\n",
@@ -30,7 +30,7 @@ def seconds(command, text):
 def compiled(folder, source, n):
     path = os.path.join(folder, "unit.c")
     with open(path, "w") as file:
-        file.write(HEAD + source + "int main(void) { return f(%d) == -1; }\n" % n)
+        file.write(HEAD + source + "int main(void) { return (int)f(%d) == -1; }\n" % n)
     program = os.path.join(folder, "unit")
     subprocess.run(["gcc", "-O0", "-fwrapv", "-msse2", "-o", program, path], check=True)
     return seconds([program], "")
