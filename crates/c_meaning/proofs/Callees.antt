@@ -1,5 +1,5 @@
 -- The functions that a run may call, looked up by their names.
-use Rattle.std.proofs.Common.{◌≡◌, ℕ, zero, suc, ◌+◌, ◌<◌, ◌≤◌, Bool, true, false, not, ◌&&◌, List, [], ◌∷◌, map, min, length, take, drop, refl, sym, ap, ◌∙◌, arith, slice_index_or, subst, if◌then◌else◌}
+use Rattle.std.proofs.Common.{◌≡◌, ℕ, zero, suc, ◌+◌, ◌<◌, ◌≤◌, true, false, not, List, [], ◌∷◌, map, min, length, take, drop, refl, sym, ap, ◌∙◌, arith, slice_index_or, subst, if◌then◌else◌}
 use Rattle.std.proofs.lemmas.Bool.{and_parts, and_from, not-true, false≢true}
 use Rattle.std.proofs.lemmas.List.{take-map, take-take, take_min, length-take, get_or-take}
 use Rattle.std.specs.Str.{bytes_eq}

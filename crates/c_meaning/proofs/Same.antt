@@ -1,15 +1,15 @@
 -- On the truth values that `address_taken` gives, what is done is the meaning.
-use Rattle.std.proofs.Common.{◌≡◌, ℕ, Bool, true, false, ◌||◌, List, [], ◌∷◌, ◌++◌, map, Option, Some, None, if◌then◌else◌, refl, sym, ap, ◌∙◌}
+use Rattle.std.proofs.Common.{◌≡◌, ℕ, ◌||◌, List, [], ◌∷◌, map, if◌then◌else◌, refl, ap, ◌∙◌}
 use mathlib.Core.Path.{fun_ext}
 use Rattle.std.specs.Str.{bytes_eq}
-use Rattle.c_tree.specs.Tree.{Tree, Object, Statement, Statements, Optional, Declare, Run, Block, If, While, DoWhile, For, Break, Continue, Return, Empty, Absent, Present, NoStatements, Then, Definition}
+use Rattle.c_tree.specs.Tree.{Object, Statement, Statements, Optional, Declare, Run, Block, If, While, DoWhile, For, Break, Continue, Return, Empty, Absent, Present, NoStatements, Then, Definition}
 use Rattle.address_taken.specs.Addressed.{takes_optional, takes_declared, takes_statement, takes_statements}
-use Rattle.address_taken.specs.Taken.{TakenTree, TakenTrees, NoParts, Part, taken_objects, taken_statement, taken_optional, taken_statements, taken_function}
+use Rattle.address_taken.specs.Taken.{TakenTrees, NoParts, Part, taken_objects, taken_statement, taken_optional, taken_statements}
 use Rattle.c_memory.specs.declared.value.Value.{Value}
-use Rattle.c_memory.specs.MeaningState.{State, Binding, Does, ◌>>=◌, ◌>>◌, pure, scoped, then_do}
+use Rattle.c_memory.specs.MeaningState.{Binding, ◌>>=◌, ◌>>◌, pure, scoped, then_do}
 use Rattle.c_memory.specs.Meaning as meaning
-use Rattle.c_memory.specs.Meaning.{Calls, Later, Flow, no_more, condition, expression, choose, on_next, loops, loops_after, with_step, optional_condition, optional_value, spend_for, back_to, result}
-use Rattle.c_meaning.specs.Flagged.{Flagged, declare, declare_one, act, optional_act, sequence, after_start, begin_parameter, begin_parameters, call_of, with_function, outermost}
+use Rattle.c_memory.specs.Meaning.{Calls, Later, no_more, condition, expression, choose, on_next, loops, loops_after, with_step, optional_condition, optional_value, spend_for, back_to, result}
+use Rattle.c_meaning.specs.Flagged.{declare, declare_one, act, optional_act, sequence, after_start, begin_parameter, begin_parameters, call_of, with_function, outermost}
 use Rattle.c_meaning.specs.Marked.{marked}
 
 declare_same : (all : List Object) (later : Later) (c : Calls) → declare all (taken_objects all later) c ≡ meaning.declare all later c

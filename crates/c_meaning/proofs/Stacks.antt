@@ -1,6 +1,6 @@
 -- Objects in scope as the code keeps them, the innermost last.
-use Rattle.std.proofs.Common.{◌≡◌, ℕ, zero, suc, ◌+◌, ◌-◌, ◌<◌, ◌≤◌, Bool, true, false, not, ◌&&◌, List, [], ◌∷◌, ◌++◌, length, take, drop, map, reverse, Option, Some, None, if◌then◌else◌, refl, sym, ap, ◌∙◌, arith, slice_index_or, slice_set, subst}
-use Rattle.std.proofs.lemmas.List.{reverse-append, take-append-drop, drop-drop, length-drop, drop_all, drop_more}
+use Rattle.std.proofs.Common.{◌≡◌, ℕ, zero, suc, ◌+◌, ◌-◌, ◌<◌, true, false, not, List, [], ◌∷◌, ◌++◌, length, take, drop, map, reverse, Some, None, if◌then◌else◌, refl, sym, ap, ◌∙◌, arith, slice_index_or, slice_set, subst}
+use Rattle.std.proofs.lemmas.List.{reverse-append, take-append-drop, drop-drop, length-drop, drop_more}
 use Rattle.std.proofs.lemmas.Bool.{and_parts, and_from, not-true, false≢true}
 use Rattle.std.specs.Str.{bytes_eq}
 use Rattle.c_memory.specs.MeaningState as state

@@ -1,5 +1,5 @@
 -- What a run knows of a unit: its functions and its tables.
-use Rattle.std.proofs.Common.{◌≡◌, ℕ, ◌+◌, Bool, List, [], ◌∷◌, ◌++◌, map, length, drop, refl, sym, ap, ◌∙◌, subst}
+use Rattle.std.proofs.Common.{◌≡◌, ℕ, ◌+◌, Bool, List, [], ◌∷◌, ◌++◌, map, length, sym, ap, ◌∙◌, subst}
 use Rattle.std.proofs.lemmas.List.{map-append, append_assoc, append-nil, length_push}
 use Rattle.c_tree.specs.declared.statements.Declared.{Declared}
 use Rattle.c_tree.specs.declared.units.Function.{Function}
@@ -11,7 +11,6 @@ use Rattle.c_memory.specs.declared.value.Value.{Value}
 use Rattle.c_memory.specs.Outcomes.{Outcome}
 use Rattle.c_memory.specs.MeaningState as state
 use Rattle.c_memory.specs.MeaningState.{InBlock}
-use Rattle.c_memory.specs.Meaning as meaning
 use Rattle.c_memory.specs.Meaning.{Calls, outcome, means, functions, table_block, table_blocks, table_objects}
 use Rattle.c_meaning.specs.declared.calls.Callee.{Callee}
 use Rattle.c_meaning.specs.declared.objects.Binding.{Binding}

@@ -1,12 +1,12 @@
 -- The meaning of statements and calls where the truth values of `address_taken` stand beside them: whether an object is a block is read
 -- there and not found again. On the truth values of `taken_function` this is the meaning.
-use Rattle.std.specs.Prelude.{ℕ, Bool, true, false, ◌||◌, List, [], ◌∷◌, Option, Some, None, if◌then◌else◌}
+use Rattle.std.specs.Prelude.{ℕ, Bool, false, ◌||◌, List, [], ◌∷◌, Option, if◌then◌else◌}
 use Rattle.std.specs.Str.{bytes_eq}
 use Rattle.c_tree.specs.Tree.{Object, Statement, Statements, Optional, Declare, Run, Block, If, While, DoWhile, For, Break, Continue, Return, Empty, Absent, Present, NoStatements, Then, Definition}
-use Rattle.address_taken.specs.Taken.{TakenTree, TakenTrees, Objects, Parts, NoParts, Part, FunctionTaken}
+use Rattle.address_taken.specs.Taken.{TakenTrees, Objects, Parts, NoParts, Part, FunctionTaken}
 use Rattle.c_memory.specs.declared.value.Value.{Value}
-use Rattle.c_memory.specs.MeaningState.{State, Binding, Does, ◌>>=◌, ◌>>◌, pure, undefined, object_of, then_do, scoped}
-use Rattle.c_memory.specs.Meaning.{Calls, Flow, Next, Broke, Continued, choose, condition, expression, is_array, begin_object, initialised, first_value, on_next, loops, loops_after, with_step, Acts, optional_condition, optional_value, returned, result, back_to, spend_for}
+use Rattle.c_memory.specs.MeaningState.{Binding, Does, ◌>>=◌, ◌>>◌, pure, undefined, object_of, then_do, scoped}
+use Rattle.c_memory.specs.Meaning.{Calls, Next, Broke, Continued, choose, condition, expression, is_array, begin_object, initialised, first_value, on_next, loops, loops_after, with_step, Acts, optional_condition, optional_value, returned, result, back_to, spend_for}
 
 -- of statements in a row, the truth values of the first one's declarators
 abbrev pub flags_of : TakenTrees → List Bool

@@ -1,5 +1,5 @@
 -- What contracts see of objects in scope.
-use Rattle.std.specs.Prelude.{ℕ, zero, suc, Bool, true, false, not, ◌&&◌, List, [], ◌∷◌, Option}
+use Rattle.std.specs.Prelude.{ℕ, zero, suc, Bool, true, false, not, ◌&&◌, List, [], ◌∷◌}
 use Rattle.std.specs.Str.{bytes_eq}
 use Rattle.c_memory.specs.MeaningState as state
 use Rattle.c_meaning.specs.declared.objects.Location.{Location}

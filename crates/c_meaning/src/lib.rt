@@ -9,8 +9,6 @@ mod names;
 mod objects;
 mod rows;
 mod state;
-#[cfg(test)]
-mod tests;
 mod unit;
 mod values;
 

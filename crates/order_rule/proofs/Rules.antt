@@ -1,11 +1,9 @@
 -- The test of a part is true exactly where the three rules hold of it.
-use Rattle.std.proofs.Common.{◌≡◌, ◌∙◌, ◌↔◌, ◌⊎◌, inl, inr, ℕ, Bool, true, false, not, ◌&&◌, ◌||◌, List, [], ◌∷◌, Option, Some, None, option_map, is_some, refl, sym, ap, subst}
+use Rattle.std.proofs.Common.{◌≡◌, ◌↔◌, ◌⊎◌, inl, inr, ℕ, Bool, true, false, not, ◌&&◌, ◌||◌, List, [], ◌∷◌, Option, Some, None, option_map, is_some, refl, sym, ap, subst}
 use Rattle.std.specs.Bool.{IsTrue}
-use Rattle.std.specs.Str.{bytes_eq}
 use Rattle.std.proofs.lemmas.Bool.{true≢false, false≢true, and_parts, and_from, or_cases, not-true}
 use Rattle.std.proofs.lemmas.Slice.Eq.{bytes_eq-Decides}
 use Rattle.c_text.specs.declared.tokens.Place.{Place}
-use Rattle.c_text.specs.declared.refusals.Refusal.{Refusal}
 use Rattle.c_tree.specs.declared.types.CType.{CType}
 use Rattle.c_tree.specs.Tree as tree
 use Rattle.c_tree.specs.Tree.{Tree, Kind, Trees, Node, NoTrees, More, Definition}
@@ -19,7 +17,7 @@ use Rattle.order_rule.specs.Memory.{Env}
 use Rattle.order_rule.specs.Writing.{occurrences, is_target, changes, changes_in, changes_in_all, writers}
 use Rattle.order_rule.specs.Reading.{reads}
 use Rattle.order_rule.specs.Parts.{assigns_once, assigns_memory, Passes, is_once, may_change, may_change_target, changes_well, changes_well_in, changes_well_in_all, writes_well, passes, unless, broken, broken_in, broken_in_all}
-use Rattle.order_rule.specs.Full.{Full, broken_of, first_broken, refusal, order_of, full_expressions}
+use Rattle.order_rule.specs.Full.{Full, first_broken, refusal, order_of, full_expressions}
 use Rattle.order_rule.specs.Rule.{EachPasses, EachPassesIn, EachPassesInAll, AllPass, KeepsOrder}
 
 -- the test b is true exactly where P holds of each name that f picks

@@ -1,5 +1,5 @@
 -- Scopes that open and end.
-use Rattle.std.proofs.Common.{◌≡◌, ◌∙◌, ℕ, Bool, true, false, List, [], ◌∷◌, ◌++◌, Option, Some, None, refl, sym, ap, is_some}
+use Rattle.std.proofs.Common.{◌≡◌, ◌∙◌, ℕ, Bool, true, false, List, [], ◌∷◌, ◌++◌, refl, ap, is_some}
 use Rattle.c_tree.specs.Tree.{Object, Statement, Statements, Optional, Declare, Absent, Present, NoStatements, Then}
 use Rattle.scopes.specs.Scopes.{named}
 use Rattle.address_taken.specs.Taken.{TakenTrees}

@@ -1,14 +1,14 @@
 -- The full expressions of a function (C11 6.8p4), and what the order rule says of them.
-use Rattle.std.specs.Prelude.{ℕ, Bool, true, false, not, ◌||◌, List, [], ◌∷◌, Option, Some, None, map, option_map}
+use Rattle.std.specs.Prelude.{Bool, true, false, ◌||◌, List, [], ◌∷◌, Option, Some, None, map, option_map}
 use Rattle.std.specs.List.{list_any}
 use Rattle.c_text.specs.declared.refusals.Refusal.{Refusal}
-use Rattle.c_tree.specs.Tree.{Tree, Node, Object, Statement, Statements, Optional, Declare, Run, Block, If, While, DoWhile, For, Return, Absent, Present, NoStatements, Then, Definition}
+use Rattle.c_tree.specs.Tree.{Tree, Object, Statement, Statements, Optional, Declare, Run, Block, If, While, DoWhile, For, Return, Absent, Present, NoStatements, Then, Definition}
 use Rattle.c_tree.specs.View.{view}
 use Rattle.type_rules.specs.Types.{node_place}
 use Rattle.expression_types.specs.Marks.{mark}
 use Rattle.scopes.specs.Scopes.{or_else}
 use Rattle.address_taken.specs.Addressed.{takes_statements}
-use Rattle.address_taken.specs.Taken.{TakenTree, TakenTrees, Nothing, Objects, Parts, NoParts, Part, taken_statements}
+use Rattle.address_taken.specs.Taken.{TakenTrees, Objects, Parts, NoParts, Part, taken_statements}
 use Rattle.order_rule.specs.declared.callees.Effects.{Effects}
 use Rattle.order_rule.specs.declared.findings.Findings.{Findings as CodeFindings}
 use Rattle.order_rule.specs.declared.times.Times.{Times}

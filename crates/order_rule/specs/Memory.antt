@@ -1,5 +1,5 @@
 -- Which objects are in memory since their address is taken in the function, by the names that a place sees (C11 6.2.1).
-use Rattle.std.specs.Prelude.{ℕ, Bool, if◌then◌else◌, List, [], ◌∷◌, ◌++◌, map, Option, Some, None, is_some, unwrap_or}
+use Rattle.std.specs.Prelude.{ℕ, Bool, if◌then◌else◌, List, [], ◌∷◌, ◌++◌, map, Option, None, is_some, unwrap_or}
 use Rattle.scopes.specs.Scopes.{named, or_else, entries_of}
 use Rattle.c_tree.specs.Tree.{Statements}
 use Rattle.c_tree.specs.View.{view_stmts}

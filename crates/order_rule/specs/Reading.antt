@@ -1,10 +1,8 @@
 -- Whether an expression reads memory: an object in memory for its value, by a row, or by a call of a function that may read memory.
-use Rattle.std.specs.Prelude.{Bool, true, false, not, ◌&&◌, ◌||◌, Option, Some, None}
-use Rattle.lane_core.specs.declared.number.BinOp.{BinOp}
+use Rattle.std.specs.Prelude.{Bool, true, false, not, ◌&&◌, ◌||◌, Some, None}
 use Rattle.c_tree.specs.declared.types.CType.{CType}
 use Rattle.c_tree.specs.Tree.{Tree, Kind, Trees, Node, Name, Unary, Step, Binary, AndThen, OrElse, Choice, Assign, Comma, Cast, Index, Deref, Address, Call, Half, PairOf, NoTrees, More}
 use Rattle.object_types.specs.Objects.{is_array}
-use Rattle.order_rule.specs.declared.callees.Effects.{Effects}
 use Rattle.order_rule.specs.Callees.{Callees, called}
 use Rattle.order_rule.specs.Memory.{Env, is_taken}
 use Rattle.order_rule.specs.Writing.{in_memory}

@@ -1,5 +1,5 @@
 -- What it means that a function keeps the order rule: each part of each of its full expressions passes.
-use Rattle.std.specs.Prelude.{Bool, false, List, [], ◌∷◌}
+use Rattle.std.specs.Prelude.{false, List, [], ◌∷◌}
 use Rattle.c_text.specs.declared.tokens.Place.{Place}
 use Rattle.c_tree.specs.declared.types.CType.{CType}
 use Rattle.c_tree.specs.Tree.{Tree, Kind, Trees, Node, AndThen, OrElse, Choice, Comma, Cast, NoTrees, More, Definition}

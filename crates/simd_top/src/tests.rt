@@ -1,4 +1,8 @@
-//! The top call over sources and sinks in memory.
+//! The top call over sources and sinks in memory, and the layers below it on the units of texts.
+
+mod meaning;
+mod reading;
+mod typing;
 
 use crate::status::Status;
 use crate::top::simdmove;

@@ -30,7 +30,7 @@ use Rattle.vector_types.specs.Tables.{is_table_type, table_name, judged_alignmen
 use Rattle.vector_types.specs.Units.{function_checked, next_item, Judged, and_judged, check_items, unless_refused, answer}
 use Rattle.vector_types.proofs.InOrder.{order-holds}
 use Rattle.vector_types.specs.Typed as t
-use Rattle.vector_types.specs.Typed.{MayDefine, IsParameter, TypedParameters, TypedFunction, IsTableType, TypedTable, TypedItems, TypedUnit}
+use Rattle.vector_types.specs.Typed.{MayDefine, IsParameter, TypedParameters, TypedFunction, IsTableType, TypedTable, TypedItems}
 
 -- names at file scope
 before-holds : (o : Option Callee) (i : ℕ) → ((f : Callee) → o ≡ Some f → f.order < i → ⊥) → is_before o i ≡ false

@@ -33,7 +33,7 @@ use Rattle.vector_types.specs.Tables.{is_table_type, is_table, fits_file, table_
 use Rattle.vector_types.specs.Units.{function_checked, item_checked, beyond_item, next_item, Judged, and_judged, check_items, unless_refused, answer}
 use Rattle.vector_types.proofs.InOrder.{order-says}
 use Rattle.vector_types.specs.Typed as t
-use Rattle.vector_types.specs.Typed.{MayDefine, IsParameter, TypedParameters, TypedFunction, IsTableType, TypedTable, TypedItems, TypedUnit}
+use Rattle.vector_types.specs.Typed.{MayDefine, IsParameter, TypedParameters, TypedFunction, IsTableType, TypedTable, TypedItems}
 
 -- what a test refuses, and what it lets through
 otherwise : {A : Type 0} (b : Bool) (r : Refusal) (m : Checked A) (v : A) → (if b then Err r else m) ≡ Ok v → (b ≡ false) × (m ≡ Ok v)

@@ -7,8 +7,6 @@ mod headings;
 mod laws;
 mod order;
 mod tables;
-#[cfg(test)]
-mod tests;
 mod typed_unit;
 mod units;
 

@@ -1,9 +1,9 @@
 //! What small units answer and leave, for each form and from both sides of each bound.
-use crate::unit::run;
+
+use super::reading::{put, read};
+use c_meaning::run;
 use c_memory::{Block, BlockList, ByteList, Memory, Outcome, Pointer, Value};
-use c_parse::parse;
-use c_preproc::scan;
-use c_text::{Dialect, lex};
+use c_text::Dialect;
 use intel_table::X86Rows;
 use neon_table::NeonRows;
 use std::alloc::{AllocError, Global};
@@ -104,21 +104,8 @@ const STATEMENTS: &str = "\
 1: int g(int *p) { *p = 7; return 1; } int f(void) { int x = 2; g(&x); return x; } -> 7 w-
 1: void g(void) { } int f(void) { g(); (void)3; return 1; } -> 1 w";
 
-fn put(out: &mut Vec<u8>, text: &str) -> Result<(), AllocError> {
-    out.extend_from_slice(text.as_bytes())?;
-    Ok(())
-}
-
-fn read(alloc: Global, text: &str, dialect: Dialect) -> Result<TypedUnit, Fail> {
-    let mut bytes = Vec::new(alloc);
-    put(&mut bytes, text)?;
-    put(&mut bytes, "\n")?;
-    if bytes.len() > 1000 {
-        return Err("too long".into());
-    }
-    let tokens = lex(alloc, bytes.as_slice()).map_err(|_| "no tokens")?;
-    scan(alloc, tokens.as_slice(), dialect).map_err(|_| "no C")?;
-    let unit = parse(alloc, tokens.as_slice(), dialect).map_err(|_| "no unit")?;
+fn typed(alloc: Global, text: &str, dialect: Dialect) -> Result<TypedUnit, Fail> {
+    let unit = read(alloc, text, dialect)?;
     Ok(check(alloc, &unit, dialect).map_err(|_| "no types")?)
 }
 
@@ -202,7 +189,7 @@ fn answer(alloc: Global, text: &str, turns: u64) -> Result<Vec<u8>, Fail> {
     let args = arguments(alloc, text)?;
     let outcome = match text.strip_prefix("neon: ") {
         Some(text) => {
-            let unit = read(alloc, text, Dialect::Neon)?;
+            let unit = typed(alloc, text, Dialect::Neon)?;
             run(
                 alloc,
                 &NeonRows,
@@ -214,7 +201,7 @@ fn answer(alloc: Global, text: &str, turns: u64) -> Result<Vec<u8>, Fail> {
             )?
         }
         None => {
-            let unit = read(alloc, text, Dialect::X86)?;
+            let unit = typed(alloc, text, Dialect::X86)?;
             run(alloc, &X86Rows, &unit, b"f", args.as_slice(), memory, turns)?
         }
     };

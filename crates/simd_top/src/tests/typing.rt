@@ -1,13 +1,12 @@
 //! Units by ISO C11 and the profile: their types, and refusals with their places.
-use crate::laws::units_are_typed_by_rules;
-use crate::units::{CheckFail, check};
-use c_parse::parse;
-use c_preproc::scan;
-use c_text::{Dialect, Refusal, lex};
+
+use super::reading::{put, read};
+use c_text::{Dialect, Refusal};
 use c_tree::{CType, Expr, ExprKind, Function, Item, Stmt, Unit};
 use std::alloc::{AllocError, Global};
 use std::process::Abort;
-use std::test::Fail as Wrong;
+use std::test::Fail;
+use vector_types::{CheckFail, check, units_are_typed_by_rules};
 
 // A text (`neon: ` before one of that dialect, `$` for a line end), and what it becomes: each table with its type, each function with the types of
 // its result and its parameters, and behind `=` the type of what it returns, before each conversion too; or its refusals: line, column, number, detail.
@@ -162,11 +161,6 @@ void f(__m128i *p, __m128i a) { _mm_storeu_si128(p, *p = a); } -> 1:33 16 _mm_st
 __m128i w(__m128i *p) { return *p = _mm_loadu_si128(p); } void f(__m128i *p, __m128i *q) { _mm_xor_si128(_mm_loadu_si128(p), w(q)); } -> 1:92 16 _mm_xor_si128
 neon: int s(int *p) { return *p = 1; } void f(int *p) { s(p) + s(p); } -> s: Int(Int)(Pointer(Int(Int), false)) = Int(Int), f: Void(Pointer(Int(Int), false))";
 
-fn put(out: &mut Vec<u8>, text: &str) -> Result<(), AllocError> {
-    out.extend_from_slice(text.as_bytes())?;
-    Ok(())
-}
-
 fn put_type(alloc: Global, out: &mut Vec<u8>, t: CType) -> Result<(), AllocError> {
     let text = format!(in alloc; "{t:?}")?;
     put(out, text.as_str())
@@ -242,21 +236,7 @@ fn show_refusals(alloc: Global, list: &[Refusal]) -> Result<Vec<u8>, AllocError>
     Ok(out)
 }
 
-fn read(alloc: Global, text: &str, dialect: Dialect) -> Result<Unit, Wrong> {
-    let mut bytes = Vec::new(alloc);
-    for line in text.split('$') {
-        put(&mut bytes, line)?;
-        put(&mut bytes, "\n")?;
-    }
-    if bytes.len() > 1000 {
-        return Err("too long".into());
-    }
-    let tokens = lex(alloc, bytes.as_slice()).map_err(|_| "no tokens")?;
-    scan(alloc, tokens.as_slice(), dialect).map_err(|_| "no C")?;
-    Ok(parse(alloc, tokens.as_slice(), dialect).map_err(|_| "no unit")?)
-}
-
-fn outcome(alloc: Global, text: &str, dialect: Dialect) -> Result<Vec<u8>, Wrong> {
+fn outcome(alloc: Global, text: &str, dialect: Dialect) -> Result<Vec<u8>, Fail> {
     let unit = read(alloc, text, dialect)?;
     match check(alloc, &unit, dialect) {
         Ok(typed) => Ok(show_unit(alloc, typed.unit())?),
@@ -265,7 +245,7 @@ fn outcome(alloc: Global, text: &str, dialect: Dialect) -> Result<Vec<u8>, Wrong
     }
 }
 
-fn agree(rt: &impl Abort, alloc: Global, rows: &str) -> Result<(), Wrong> {
+fn agree(rt: &impl Abort, alloc: Global, rows: &str) -> Result<(), Fail> {
     for row in rows.lines() {
         let (text, want) = row.split_once(" -> ").ok_or("malformed")?;
         let found = match text.strip_prefix("neon: ") {
@@ -278,35 +258,35 @@ fn agree(rt: &impl Abort, alloc: Global, rows: &str) -> Result<(), Wrong> {
 }
 
 #[test]
-fn units_have_types(rt: HostRuntime) -> Result<(), Wrong> {
+fn units_have_types(rt: HostRuntime) -> Result<(), Fail> {
     agree(&rt, rt.alloc(), TYPES)?;
     units_are_typed_by_rules();
     Ok(())
 }
 
 #[test]
-fn names_and_tables(rt: HostRuntime) -> Result<(), Wrong> {
+fn names_and_tables(rt: HostRuntime) -> Result<(), Fail> {
     agree(&rt, rt.alloc(), NAMES)
 }
 
 #[test]
-fn refused_items_and_calls(rt: HostRuntime) -> Result<(), Wrong> {
+fn refused_items_and_calls(rt: HostRuntime) -> Result<(), Fail> {
     agree(&rt, rt.alloc(), ITEMS)
 }
 
 #[test]
-fn order_of_variables(rt: HostRuntime) -> Result<(), Wrong> {
+fn order_of_variables(rt: HostRuntime) -> Result<(), Fail> {
     agree(&rt, rt.alloc(), VARIABLES)
 }
 
 #[test]
-fn order_of_memory(rt: HostRuntime) -> Result<(), Wrong> {
+fn order_of_memory(rt: HostRuntime) -> Result<(), Fail> {
     agree(&rt, rt.alloc(), MEMORY)
 }
 
 // A unit that was typed is typed as the same once more.
 #[test]
-fn a_typed_unit_is_checked_again(rt: HostRuntime) -> Result<(), Wrong> {
+fn a_typed_unit_is_checked_again(rt: HostRuntime) -> Result<(), Fail> {
     let text =
         "const char t[] = {1, 2}; int f(const char *p) { for (; *p; p++) if (t[1] == *p) return p - t; return 0; }";
     for dialect in [Dialect::X86, Dialect::Neon].iter() {
