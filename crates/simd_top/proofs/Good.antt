@@ -1,5 +1,5 @@
 -- The unit that is written is read again.
-use Rattle.std.proofs.Common.{◌≡◌, ℕ, List, [], ◌∷◌, ◌++◌, Bool, true, false, cond, ◌&&◌, ◌||◌, not, Option, Some, None, is_some, is_none, refl, sym, subst, map}
+use Rattle.std.proofs.Common.{◌≡◌, ℕ, List, [], ◌∷◌, ◌++◌, Bool, true, false, ◌&&◌, ◌||◌, not, Option, Some, None, is_some, is_none, refl, sym, subst, map}
 use Rattle.std.proofs.lemmas.Slice.Eq.{bytes_eq-Decides}
 use Rattle.c_text.specs.declared.tokens.Dialect.TheVariants.{X86, Neon}
 use Rattle.c_text.specs.Forms.{is_name}
@@ -17,9 +17,10 @@ use Rattle.scopes.specs.Scopes.{same_name}
 use Rattle.round_trip.specs.Good.{GoodName, Good, GoodKind, GoodAll}
 use Rattle.round_trip.specs.GoodUnits.{GoodObjectType, GoodPart, GoodList, HasShape, IsNoArray, GoodParameter, GoodParameters, GoodStatement, GoodStatements, GoodFunction, GoodItem, GoodUnit}
 use Rattle.simd_top.specs.Rows.{intel_row}
-use Rattle.simd_top.specs.Form.{is_in, is_plain_name, is_free, is_expression, is_kind, are_expressions, are_two, is_register, is_plain, is_parameter, are_parameters, names_of, returns, returns_option, is_body, has_one, is_heading, is_function, is_item, item_name, first_outside, outside}
+use Rattle.simd_top.specs.Form.{is_in, is_plain_name, is_free, is_expression, is_kind, are_expressions, are_two, is_register, is_plain, is_parameter, are_parameters, names_of, returns, returns_option, is_body, has_one, is_heading, is_function, is_item, item_name, first_outside}
 use Rattle.simd_top.specs.Written.{moved_type, moved_call, moved_tree, moved_kind, moved_trees, moved_object, moved_statement, moved_statements, moved_function, moved_item, moved_unit}
 use Rattle.simd_top.proofs.Conjunction.{split_and}
+use Rattle.simd_top.proofs.Headings.{item_passes}
 
 plain_is : (s : Symbol) → is_plain_name s ≡ true → s ≡ symbols.Name
 plain_is symbols.Name h = refl
@@ -126,7 +127,7 @@ shape ctypes.Pair length init list h a b = absurd (cc)
 shape (ctypes.Pointer p q) length init list h a b = absurd (cc)
 shape (ctypes.Array p n q) length init list h a b = absurd (cc)
 
-none_is : {A : Type 0} (o : Option A) → is_none o ≡ true → o ≡ None
+pub none_is : {A : Type 0} (o : Option A) → is_none o ≡ true → o ≡ None
 none_is None h = refl
 none_is (Some x) h = absurd (cc)
 
@@ -210,15 +211,6 @@ good_function f h =
 good_item : (seen : List (List ℕ)) (x : External) → is_item seen x ≡ true → GoodItem (moved_item x)
 good_item seen (Function f) h = good_function f (split_and (is_function f) (not (is_in seen f.name)) h).0
 good_item seen (Table o s) h = absurd (cc)
-
--- an item behind which the first item outside the form is looked for is of the form
-pub item_passes : (seen : List (List ℕ)) (x : External) (xs : List External) → first_outside seen (x ∷ xs) ≡ None →
-    (is_item seen x ≡ true) × (first_outside (seen ++ item_name x ∷ []) xs ≡ None)
-item_passes seen x xs h = go (is_item seen x) refl h
-  where
-    go : (v : Bool) → is_item seen x ≡ v → cond v (first_outside (seen ++ item_name x ∷ []) xs) (Some (outside x)) ≡ None → (is_item seen x ≡ true) × (first_outside (seen ++ item_name x ∷ []) xs ≡ None)
-    go true s e = (s, e)
-    go false s e = absurd (cc)
 
 pub good_unit : (seen : List (List ℕ)) (u : List External) → first_outside seen u ≡ None → GoodUnit (moved_unit u)
 good_unit seen [] h = tt

@@ -7,9 +7,8 @@ pub mod Written
 pub mod NameSets
 pub mod Source
 pub mod Refusals
-pub mod Meaning
-pub mod Migrated
 pub mod Ran
+pub mod Migrated
 pub mod Due
 pub mod TopCall
 pub mod Seen

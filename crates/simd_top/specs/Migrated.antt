@@ -1,34 +1,29 @@
 -- What a written text owes to its source.
-use Rattle.std.specs.Prelude.{◌≡◌, ℕ, List, [], ◌∷◌, length, map}
-use Rattle.lane_core.specs.Register.{IsRegister}
-use Rattle.c_text.specs.declared.tokens.Dialect.TheVariants.{X86}
-use Rattle.intel_base.specs.Rows as intel
-use Rattle.neon_lane.specs.Rows as neon
-use Rattle.c_tree.specs.Tree.{Definition, External, Function}
+use Rattle.std.specs.Prelude.{◌≡◌, ℕ, ◌+◌, List, [], ◌∷◌, length, map, Some, Ok}
+use Rattle.c_text.specs.declared.tokens.Dialect.TheVariants.{X86, Neon}
 use Rattle.c_print.specs.Text.{text_of}
+use Rattle.c_tree.specs.Tree.{Definition, External, Function}
+use Rattle.c_memory.specs.declared.blocks.Block.{Block}
+use Rattle.c_memory.specs.declared.value.Value.{Value}
+use Rattle.c_memory.specs.Matching.{TypesMatch, written_type, ArgumentsMatch, OutcomesMatch}
+use Rattle.c_memory.specs.Meaning.{means, table_blocks}
+use Rattle.c_memory.specs.Outcomes.{Outcome, Undefined}
+use Rattle.c_memory.specs.Values.{AreArguments}
+use Rattle.vector_types.specs.Units.{check_unit}
+use Rattle.migrate_report.specs.Fits.{types_of, function_named}
 use Rattle.round_trip.specs.Again.{ReadAgain}
-use Rattle.simd_top.specs.Rows.{intel_row, neon_row}
 use Rattle.simd_top.specs.Form.{names_of}
-use Rattle.simd_top.specs.Written.{moved_type}
-use Rattle.simd_top.specs.Meaning.{body_value}
+use Rattle.simd_top.specs.Ran.{rows}
 use Rattle.simd_top.specs.Source.{HasUnit}
 
--- each argument is a register of 16 bytes
-abbrev pub AreRegisters : List (List ℕ) → Type 0
-AreRegisters [] = Unit {0}
-AreRegisters (a ∷ args) = IsRegister 16 a × AreRegisters args
-
--- The functions have the same name, the same words `static` and `inline`, and parameters of the same names; `uint8x16_t` stands for `__m128i`. For all
--- arguments both return the same register, the one by Intel's table, the other by Arm's.
+-- The functions have the same name, the same words `static` and `inline`, parameters of the same names, and matching types.
 pub record SameFunction (f g : Definition) : Type 0 where
   pub name : g.name ≡ f.name
   pub is_static : g.is_static ≡ f.is_static
   pub is_inline : g.is_inline ≡ f.is_inline
-  pub result : g.result ≡ moved_type f.result
+  pub result : TypesMatch f.result g.result
   pub parameters : names_of g.params ≡ names_of f.params
-  pub types : map (λ o. o.ty) g.params ≡ map (λ o. moved_type o.ty) f.params
-  pub values : (args : List (List ℕ)) → length args ≡ length f.params → AreRegisters args →
-      body_value intel_row intel.row_of (names_of f.params) args f.body ≡ body_value neon_row neon.row_of (names_of g.params) args g.body
+  pub types : types_of g.params ≡ map written_type (types_of f.params)
 
 -- the same functions in the same order
 abbrev pub SameFunctions : List External → List External → Type 0
@@ -36,11 +31,28 @@ SameFunctions [] [] = Unit {0}
 SameFunctions (Function f ∷ fs) (Function g ∷ gs) = SameFunction f g × SameFunctions fs gs
 SameFunctions _ _ = ⊥
 
--- The source is a unit that has types; the written text is the text of a Neon unit, is read again as that unit, and the functions are the same.
+-- where the first outcome isn't undefined, the other matches it; n blocks are compared
+abbrev pub Follows : ℕ → Outcome → Outcome → Type 0
+Follows n Undefined other = Unit {0}
+Follows n out other = OutcomesMatch n out other
+
+-- The written unit does what its source does. For every function of the source, all arguments of its parameters' types, every memory and every
+-- bound on turns for which the source is defined, the call of that function in the written unit, with the matching arguments, has a
+-- matching outcome. The blocks of the memory and of the tables are compared.
+abbrev pub DoesTheSame : List External → List External → Type 0
+DoesTheSame unit written =
+    (name : List ℕ) (f : Definition) (args others : List Value) (memory : List Block) (turns : ℕ) →
+    function_named name unit ≡ Some f → AreArguments memory (types_of f.params) args → ArgumentsMatch args others →
+    Follows (length memory + length (table_blocks unit)) (means (rows X86) unit name args memory turns) (means (rows Neon) written name others memory turns)
+
+-- The source is a unit that has types. The written text is the text of a Neon unit that has its types; it is read again as that unit, whose functions are
+-- the same and do the same.
 pub record Migrated (source written : List ℕ) : Type 0 where
   pub unit : List External
   pub written_unit : List External
   pub has_unit : HasUnit X86 source unit
+  pub typed : check_unit Neon written_unit ≡ Ok written_unit
   pub is_text : written ≡ text_of written_unit
   pub again : ReadAgain written_unit
   pub same : SameFunctions unit written_unit
+  pub does_the_same : DoesTheSame unit written_unit

@@ -23,16 +23,6 @@ neon_name VrhaddqU8 = codes "vrhaddq_u8"
 neon_name VminqU8 = codes "vminq_u8"
 neon_name VeorqU8 = codes "veorq_u8"
 
--- the row of a name, by Arm's reference
-abbrev pub neon_row : List ℕ → Option LaneOp
-neon_row x =
-    if bytes_eq x (neon_name VaddqU8) then Some VaddqU8
-    else if bytes_eq x (neon_name VsubqU8) then Some VsubqU8
-    else if bytes_eq x (neon_name VrhaddqU8) then Some VrhaddqU8
-    else if bytes_eq x (neon_name VminqU8) then Some VminqU8
-    else if bytes_eq x (neon_name VeorqU8) then Some VeorqU8
-    else None
-
 -- the Neon row that stands for a row
 abbrev pub moved_row : BaseOp → LaneOp
 moved_row AddEpi8 = VaddqU8

@@ -8,9 +8,13 @@ use Rattle.c_tree.specs.Tree.{Tree, Kind, Trees, Node, Call, NoTrees, More, Obje
 use Rattle.intel_base.specs.declared.BaseOp.{BaseOp}
 use Rattle.simd_top.specs.Rows.{intel_row, neon_name, moved_row}
 
+-- a register of 16 bytes, which each expression of the form is
+abbrev pub register : CType
+register = Neon U8 true
+
 -- `uint8x16_t` stands for `__m128i`
 abbrev pub moved_type : CType → CType
-moved_type M128 = Neon U8 true
+moved_type M128 = register
 moved_type ty = ty
 
 -- the call of a Neon row stands for that of a row
@@ -20,7 +24,7 @@ moved_call f None = f
 
 abbrev mutual
   pub moved_tree : Tree → Tree
-  moved_tree (Node p ty k) = Node p ty (moved_kind k)
+  moved_tree (Node p ty k) = Node p register (moved_kind k)
 
   pub moved_kind : Kind → Kind
   moved_kind (Call f operands) = Call (moved_call f (intel_row f)) (moved_trees operands)

@@ -36,7 +36,7 @@ fn moved_tree(alloc: Global, e: &Expr) -> Result<Expr, AllocError>
     let kind = Box::new(alloc, kind)?;
     Ok(Expr {
         place: e.place,
-        ty: e.ty,
+        ty: CType::Neon(NeonLane::U8, true),
         kind,
     })
 }

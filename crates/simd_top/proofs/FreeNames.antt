@@ -1,0 +1,62 @@
+-- A name that both units may declare is no row's.
+use Rattle.std.proofs.Common.{◌≡◌, ℕ, List, Bool, true, false, ◌||◌, not, is_some, refl}
+use Rattle.std.specs.Prelude.{nat_eq, codes}
+use Rattle.std.specs.List.{starts_with}
+use Rattle.std.specs.Str.{bytes_eq}
+use Rattle.std.proofs.lemmas.Slice.Eq.{bytes_eq-Decides}
+use Rattle.c_text.specs.declared.tokens.Dialect.TheVariants.{X86, Neon}
+use Rattle.intel_base.specs.declared.BaseOp.{BaseOp}
+use Rattle.intel_base.specs.declared.BaseOp.TheVariants.{AddEpi8, SubEpi8, AvgEpu8, MinEpu8, XorSi128}
+use Rattle.neon_table.specs.Rows as neon_table
+use Rattle.object_types.specs.Reserved.{is_reserved, is_vector_type, is_predefined}
+use Rattle.simd_top.specs.Rows.{neon_name, moved_row}
+use Rattle.simd_top.specs.Form.{is_free}
+use Rattle.simd_top.proofs.Conjunction.{split_and}
+use Rattle.simd_top.proofs.Values.{intel_name}
+
+not_reserved : (x : List ℕ) → is_free x ≡ true → is_reserved X86 x ≡ false
+not_reserved x h = go (is_reserved X86 x) refl (split_and _ (not (is_reserved X86 x)) h).1
+  where
+    go : (v : Bool) → is_reserved X86 x ≡ v → not v ≡ true → is_reserved X86 x ≡ false
+    go true e k = absurd (cc)
+    go false e k = e
+
+pub neither : (v w : Bool) → (v || w) ≡ false → (v ≡ false) × (w ≡ false)
+neither true w e = absurd (cc)
+neither false w e = (refl, e)
+
+pub no_neon_row : (x : List ℕ) → is_free x ≡ true → is_some (neon_table.find_of x) ≡ false
+no_neon_row x free =
+    let begins = starts_with nat_eq x (codes "mg_") || starts_with nat_eq x (codes "_mm") || starts_with nat_eq x (codes "__builtin_") in
+    let a = neither (begins || is_some (neon_table.find_of x) || is_vector_type x || is_predefined X86 x) (is_predefined Neon x) (not_reserved x free) in
+    let b = neither (begins || is_some (neon_table.find_of x) || is_vector_type x) (is_predefined X86 x) a.0 in
+    let c = neither (begins || is_some (neon_table.find_of x)) (is_vector_type x) b.0 in
+    (neither begins (is_some (neon_table.find_of x)) c.0).1
+
+intel_reserved : (op : BaseOp) → is_reserved X86 (intel_name op) ≡ true
+intel_reserved AddEpi8 = refl
+intel_reserved SubEpi8 = refl
+intel_reserved AvgEpu8 = refl
+intel_reserved MinEpu8 = refl
+intel_reserved XorSi128 = refl
+
+neon_reserved : (op : BaseOp) → is_reserved X86 (neon_name (moved_row op)) ≡ true
+unfolding neon_table.find_of
+neon_reserved AddEpi8 = refl
+neon_reserved SubEpi8 = refl
+neon_reserved AvgEpu8 = refl
+neon_reserved MinEpu8 = refl
+neon_reserved XorSi128 = refl
+
+other_name : (x y : List ℕ) → is_reserved X86 x ≡ true → is_reserved X86 y ≡ false → bytes_eq x y ≡ false
+other_name x y h k = go (bytes_eq x y) refl
+  where
+    go : (v : Bool) → bytes_eq x y ≡ v → bytes_eq x y ≡ false
+    go true e = let same = (bytes_eq-Decides x y).0 e in absurd (cc)
+    go false e = e
+
+pub other_than_intel : (op : BaseOp) (x : List ℕ) → is_free x ≡ true → bytes_eq (intel_name op) x ≡ false
+other_than_intel op x free = other_name (intel_name op) x (intel_reserved op) (not_reserved x free)
+
+pub other_than_neon : (op : BaseOp) (x : List ℕ) → is_free x ≡ true → bytes_eq (neon_name (moved_row op)) x ≡ false
+other_than_neon op x free = other_name (neon_name (moved_row op)) x (neon_reserved op) (not_reserved x free)
