@@ -12,8 +12,8 @@ mod Lines
 mod Moved
 mod NamesSeen
 mod Parameters
+mod ReadParameters
 mod Refused
 mod Same
 mod Told
 mod Values
-mod WrittenTypes

@@ -18,9 +18,11 @@ use Rattle.migrate_report.specs.Fits.{types_of}
 use Rattle.simd_top.specs.Written.{moved_type}
 use Rattle.simd_top.proofs.Expressions.{Known, name_value}
 
--- an object with a type that is made of its own
-abbrev pub typed : (CType → CType) → Object → Object
-typed g o = record o { ty = g o.ty }
+-- objects with the names of others, and types that are made of theirs
+abbrev pub Heads : (CType → CType) → List Object → List Object → Type 0
+Heads g [] [] = Unit {0}
+Heads g (o ∷ os) (d ∷ ds) = (o.name ≡ d.name) × (o.ty ≡ g d.ty) × Heads g os ds
+Heads g os ds = ⊥
 
 -- parameters and their registers, the last one first
 abbrev pub Pairs : Type 0
@@ -45,19 +47,20 @@ state g zs memory left = record { objects = bindings g zs; memory = memory; left
 equal : (x : List ℕ) → bytes_eq x x ≡ true
 equal x = (bytes_eq-Decides x x).1 refl
 
-one_begins : (g : CType → CType) (body : Statements) (d : Object) (r : List ℕ) (ds : List Object) (rs : List (List ℕ)) (zs : Pairs) (memory : List Block) (left : ℕ) → takes_statements d.name body ≡ false →
-    begin_parameters body (typed g d ∷ map (typed g) ds) (Value.R16 r ∷ map Value.R16 rs) (state g zs memory left)
-    ≡ begin_parameters body (map (typed g) ds) (map Value.R16 rs) (state g ((d, r) ∷ zs) memory left)
-one_begins g body d r ds rs zs memory left h = rw (h, equal d.name, equal d.name) refl
+one_begins : (g : CType → CType) (body : Statements) (o d : Object) (r : List ℕ) (os : List Object) (rs : List (List ℕ)) (zs : Pairs) (memory : List Block) (left : ℕ) → o.name ≡ d.name → o.ty ≡ g d.ty → takes_statements d.name body ≡ false →
+    begin_parameters body (o ∷ os) (Value.R16 r ∷ map Value.R16 rs) (state g zs memory left) ≡ begin_parameters body os (map Value.R16 rs) (state g ((d, r) ∷ zs) memory left)
+one_begins g body o d r os rs zs memory left name type h = rw (name, type, h, equal d.name, equal d.name) refl
 
-pub parameters_begin : (g : CType → CType) (body : Statements) (ds : List Object) (rs : List (List ℕ)) (zs : Pairs) (memory : List Block) (left : ℕ) →
-    ((x : List ℕ) → takes_statements x body ≡ false) → length rs ≡ length ds →
-    begin_parameters body (map (typed g) ds) (map Value.R16 rs) (state g zs memory left) ≡ Done tt (state g (paired ds rs zs) memory left)
-parameters_begin g body [] [] zs memory left h n = refl
-parameters_begin g body [] (r ∷ rs) zs memory left h n = absurd (cc)
-parameters_begin g body (d ∷ ds) [] zs memory left h n = absurd (cc)
-parameters_begin g body (d ∷ ds) (r ∷ rs) zs memory left h n =
-    one_begins g body d r ds rs zs memory left (h d.name) ∙ parameters_begin g body ds rs ((d, r) ∷ zs) memory left h (cc)
+pub parameters_begin : (g : CType → CType) (body : Statements) (os ds : List Object) (rs : List (List ℕ)) (zs : Pairs) (memory : List Block) (left : ℕ) →
+    Heads g os ds → ((x : List ℕ) → takes_statements x body ≡ false) → length rs ≡ length ds →
+    begin_parameters body os (map Value.R16 rs) (state g zs memory left) ≡ Done tt (state g (paired ds rs zs) memory left)
+parameters_begin g body [] [] [] zs memory left heads h n = refl
+parameters_begin g body [] [] (r ∷ rs) zs memory left heads h n = absurd (cc)
+parameters_begin g body [] (d ∷ ds) rs zs memory left heads h n = absurd heads
+parameters_begin g body (o ∷ os) [] rs zs memory left heads h n = absurd heads
+parameters_begin g body (o ∷ os) (d ∷ ds) [] zs memory left heads h n = absurd (cc)
+parameters_begin g body (o ∷ os) (d ∷ ds) (r ∷ rs) zs memory left heads h n =
+    one_begins g body o d r os rs zs memory left heads.0 heads.1 (h d.name) ∙ parameters_begin g body os ds rs ((d, r) ∷ zs) memory left heads.2 h (cc)
 
 -- ---- what a name denotes
 

@@ -1,84 +1,62 @@
--- A unit of the form and the one that is written for it have the same functions, and these do the same.
-use Rattle.std.proofs.Common.{◌≡◌, ℕ, ◌+◌, List, [], ◌∷◌, ◌++◌, map, length, Bool, true, false, cond, not, Option, Some, None, refl, ap}
-use Rattle.std.specs.Prelude.{find}
+-- A unit that is read in place of the one that is written for a unit of the form has the same functions, and these do the same.
+use Rattle.std.proofs.Common.{◌≡◌, ℕ, ◌+◌, List, [], ◌∷◌, ◌++◌, map, length, Bool, true, false, cond, not, Option, Some, None, Ok, is_some, refl, sym, ◌∙◌, ap, subst, arith}
+use Rattle.std.specs.Prelude.{find, nat_lt}
 use Rattle.std.specs.Str.{bytes_eq}
+use Rattle.std.proofs.lemmas.Bool.Decides.{nat_tests}
+use Rattle.std.proofs.lemmas.Slice.Eq.{bytes_eq-Decides}
 use Rattle.c_text.specs.declared.tokens.Dialect.TheVariants.{X86, Neon}
-use Rattle.c_tree.specs.declared.types.CType.{CType}
-use Rattle.c_tree.specs.declared.types.CType.TheVariants as ctypes
-use Rattle.c_tree.specs.Tree.{Object, Definition, External, Function, Table}
+use Rattle.intel_base.specs.declared.BaseOp.{BaseOp}
+use Rattle.c_tree.specs.Tree.{Definition, External, Function, Table}
+use Rattle.c_tree.specs.Same.{stripped_definition, stripped_external, Same}
 use Rattle.c_print.specs.Text.{text_of}
 use Rattle.round_trip.proofs.Again.{text_again}
+use Rattle.scopes.specs.Scopes.{Callee, named, same_name}
+use Rattle.vector_types.specs.Functions.{heading_of as function_heading, with_function as with_heading, with_items, is_before, check_function}
+use Rattle.vector_types.specs.Units.{check_items, answer, check_unit}
 use Rattle.c_memory.specs.declared.blocks.Block.{Block as MemoryBlock}
 use Rattle.c_memory.specs.declared.value.Value.{Value}
-use Rattle.c_memory.specs.Matching.{TypesMatch, written_type, ArgumentsMatch}
+use Rattle.c_memory.specs.Matching.{ArgumentsMatch}
 use Rattle.c_memory.specs.MeaningState.{State, Does}
-use Rattle.c_memory.specs.Meaning.{Calls, with_function, outermost, functions, table_blocks, table_objects, outcome}
+use Rattle.c_memory.specs.Meaning.{Calls, call_of, with_function, outermost, functions, table_blocks, table_objects, outcome}
 use Rattle.c_memory.specs.Values.{AreArguments}
 use Rattle.migrate_report.specs.Fits.{types_of}
+use Rattle.simd_top.specs.Migrated.{SameFunctions, Follows, DoesTheSame, Migrated}
+use Rattle.simd_top.specs.Rows.{neon_name, moved_row}
 use Rattle.simd_top.specs.Ran.{rows}
-use Rattle.simd_top.specs.Form.{is_in, is_free, names_of, is_register, is_function, first_outside}
-use Rattle.simd_top.specs.Written.{moved_type, moved_object, moved_function, moved_unit}
 use Rattle.simd_top.specs.Source.{HasUnit}
-use Rattle.simd_top.specs.Migrated.{SameFunction, SameFunctions, Follows, DoesTheSame, Migrated}
+use Rattle.simd_top.specs.Form.{is_in, is_free, is_function, first_outside}
+use Rattle.simd_top.specs.Written.{moved_function, moved_unit}
 use Rattle.simd_top.proofs.Conjunction.{split_and}
-use Rattle.simd_top.proofs.FreeNames.{other_than_intel, other_than_neon}
+use Rattle.simd_top.proofs.Values.{named as row_named, intel_call, neon_call}
 use Rattle.simd_top.proofs.Good.{good_unit}
+use Rattle.simd_top.proofs.FreeNames.{other_than_intel, other_than_neon}
 use Rattle.simd_top.proofs.Headings.{item_passes, result_and_name, heading_of}
-use Rattle.simd_top.proofs.Values.{named, intel_call, neon_call}
-use Rattle.simd_top.proofs.Expressions.{DoRows}
-use Rattle.simd_top.proofs.Parameters.{AllRegisters, m128}
-use Rattle.simd_top.proofs.Bodies.{BothDone, plain_registers, function_done}
-use Rattle.simd_top.proofs.WrittenTypes.{unit_typed}
+use Rattle.simd_top.proofs.Expressions.{DoRows, HasNoRow}
+use Rattle.simd_top.proofs.ReadParameters.{Unseen, unseen_more, named_more, not_in}
+use Rattle.simd_top.proofs.Bodies.{outside_functions, BothDone, function_read}
 
--- ---- headings
-
-names_stay : (os : List Object) → names_of (map moved_object os) ≡ names_of os
-names_stay [] = refl
-names_stay (o ∷ os) = ap (λ ns. o.name ∷ ns) (names_stay os)
-
-types_move : (os : List Object) → AllRegisters os → types_of (map moved_object os) ≡ map written_type (types_of os)
-types_move [] h = refl
-types_move (o ∷ os) h = rw (m128 o.ty h.0) (ap (λ ts. written_type ctypes.M128 ∷ ts) (types_move os h.1))
-
-register_moves : (t : CType) → is_register t ≡ true → TypesMatch t (moved_type t)
-register_moves t h = rw (m128 t h) refl
-
-heading_stays : (f : Definition) → is_function f ≡ true → SameFunction f (moved_function f)
-heading_stays f t =
-    let heading = heading_of f t in
-    record {
-      name = refl;
-      is_static = refl;
-      is_inline = refl;
-      result = register_moves f.result (result_and_name f heading.1).0;
-      parameters = names_stay f.params;
-      types = types_move f.params (plain_registers [] f.params heading.0);
-    }
-
-functions_stay : (seen : List (List ℕ)) (u : List External) → first_outside seen u ≡ None → SameFunctions u (moved_unit u)
-functions_stay seen [] h = tt
-functions_stay seen (Function f ∷ xs) h =
-    let a = item_passes seen (Function f) xs h in
-    (heading_stays f (split_and (is_function f) (not (is_in seen f.name)) a.0).0, functions_stay (seen ++ f.name ∷ []) xs a.1)
-functions_stay seen (Table o s ∷ xs) h = let a = item_passes seen (Table o s) xs h in absurd (cc)
-
--- ---- the functions of a unit
+-- ---- calls from outside
 
 -- with a function the calls still do the rows
-rows_stay : (f : Definition) (c d : Calls) → is_free f.name ≡ true → DoRows c d → DoRows (with_function [] f c) (with_function [] (moved_function f) d)
-rows_stay f c d free do_rows x op a b s t h =
-    let named = named x op h in
+rows_stay : (f g : Definition) (c d : Calls) → is_free f.name ≡ true → g.name ≡ f.name → DoRows c d → DoRows (with_function [] f c) (with_function [] g d)
+rows_stay f g c d free name do_rows x op a b s t h =
+    let is = row_named x op h in
     let intel = other_than_intel op f.name free in
     let neon = other_than_neon op f.name free in
     let done = do_rows x op a b s t h in
-    (rw (named, intel) (rw named at done.0), rw neon done.1)
+    (rw (is, intel) (rw is at done.0), rw (name, neon) done.1)
 
 rows_done : DoRows (rows X86) (rows Neon)
-rows_done x op a b s t h = (rw (named x op h) (intel_call op a b s), neon_call op a b t)
+rows_done x op a b s t h = (rw (row_named x op h) (intel_call op a b s), neon_call op a b t)
 
-abbrev AllFunctions : List Definition → Type 0
-AllFunctions [] = Unit {0}
-AllFunctions (f ∷ fs) = (is_function f ≡ true) × AllFunctions fs
+-- functions with the same names, of which each pair returns the same register
+abbrev AllDone : List Definition → List Definition → Type 0
+AllDone [] [] = Unit {0}
+AllDone (f ∷ fs) (g ∷ gs) = (is_function f ≡ true) × (g.name ≡ f.name)
+    × ((c d : Calls) (args others : List Value) (memory : List MemoryBlock) (s : State) → DoRows c d → AreArguments memory (types_of f.params) args → ArgumentsMatch args others →
+    BothDone (call_of [] f c args) (call_of [] g d others) s)
+    × AllDone fs gs
+AllDone fs gs = ⊥
 
 free_name : (f : Definition) → is_function f ≡ true → is_free f.name ≡ true
 free_name f h = (result_and_name f (heading_of f h).1).1
@@ -86,73 +64,170 @@ free_name f h = (result_and_name f (heading_of f h).1).1
 same_function : (f g : Definition) → Some f ≡ Some g → f ≡ g
 same_function f g h = cc
 
-outermost_done : (fs : List Definition) (c d : Calls) (name : List ℕ) (f : Definition) (args others : List Value) (memory : List MemoryBlock) (s : State) → DoRows c d → AllFunctions fs →
+outermost_done : (fs gs : List Definition) (c d : Calls) (name : List ℕ) (f : Definition) (args others : List Value) (memory : List MemoryBlock) (s : State) → DoRows c d → AllDone fs gs →
     find (λ g. bytes_eq name g.name) fs ≡ Some f → AreArguments memory (types_of f.params) args → ArgumentsMatch args others →
-    BothDone (outermost [] c fs name args) (outermost [] d (map moved_function fs) name others) s
-outermost_done [] c d name f args others memory s do_rows all h k m = absurd (cc)
-outermost_done (g ∷ fs) c d name f args others memory s do_rows all h k m =
-    go (bytes_eq name g.name) refl
-    (λ rest. outermost_done fs (with_function [] g c) (with_function [] (moved_function g) d) name f args others memory s (rows_stay g c d (free_name g all.0) do_rows) all.1 rest k m) h
+    BothDone (outermost [] c fs name args) (outermost [] d gs name others) s
+outermost_done [] [] c d name f args others memory s do_rows all h k m = absurd (cc)
+outermost_done [] (g ∷ gs) c d name f args others memory s do_rows all h k m = absurd all
+outermost_done (e ∷ fs) [] c d name f args others memory s do_rows all h k m = absurd all
+outermost_done (e ∷ fs) (g ∷ gs) c d name f args others memory s do_rows all h k m =
+    go (bytes_eq name e.name) refl
+    (λ rest. outermost_done fs gs (with_function [] e c) (with_function [] g d) name f args others memory s (rows_stay e g c d (free_name e all.0) all.1 do_rows) all.3 rest k m) h
   where
-    go : (v : Bool) → bytes_eq name g.name ≡ v →
-        (find (λ x. bytes_eq name x.name) fs ≡ Some f → BothDone (outermost [] (with_function [] g c) fs name args) (outermost [] (with_function [] (moved_function g) d) (map moved_function fs) name others) s) →
-        cond v (Some g) (find (λ x. bytes_eq name x.name) fs) ≡ Some f →
-        BothDone (outermost [] c (g ∷ fs) name args) (outermost [] d (moved_function g ∷ map moved_function fs) name others) s
-    go true e later same =
-        let done = function_done g c d args others memory s do_rows all.0 (rw (same_function g f same) k) m in
-        record { register = done.register; first = rw e done.first; second = rw e done.second }
-    go false e later rest =
+    go : (v : Bool) → bytes_eq name e.name ≡ v →
+        (find (λ x. bytes_eq name x.name) fs ≡ Some f → BothDone (outermost [] (with_function [] e c) fs name args) (outermost [] (with_function [] g d) gs name others) s) →
+        cond v (Some e) (find (λ x. bytes_eq name x.name) fs) ≡ Some f →
+        BothDone (outermost [] c (e ∷ fs) name args) (outermost [] d (g ∷ gs) name others) s
+    go true is later same =
+        let done = all.2 c d args others memory s do_rows (rw (same_function e f same) k) m in
+        record { register = done.register; first = rw is done.first; second = rw (ap (bytes_eq name) all.1 ∙ is) done.second }
+    go false is later rest =
         let done = later rest in
-        record { register = done.register; first = rw e done.first; second = rw e done.second }
+        record { register = done.register; first = rw is done.first; second = rw (ap (bytes_eq name) all.1 ∙ is) done.second }
+
+-- ---- the unit's functions
+
+-- the functions with one more
+abbrev with_one : ℕ → Definition → List (List ℕ × Callee) → List (List ℕ × Callee)
+with_one i f all = all ++ (f.name, record { order = i; heading = function_heading Neon f }) ∷ []
+
+one_with : (i : ℕ) (f : Definition) (all : List (List ℕ × Callee)) → named f.name all ≡ None → with_heading Neon i f all ≡ with_one i f all
+one_with i f all h = rw h refl
+
+items_keep : (us : List External) (i : ℕ) (all : List (List ℕ × Callee)) (x : List ℕ) (c : Callee) → named x all ≡ Some c → named x (with_items Neon i us all) ≡ Some c
+items_keep [] i all x c h = h
+items_keep (Function f ∷ us) i all x c h = items_keep us (i + 1) (with_heading Neon i f all) x c (go (is_some (named f.name all)))
+  where
+    go : (v : Bool) → named x (cond v all (with_one i f all)) ≡ Some c
+    go true = h
+    go false = rw (named_more x f.name (record { order = i; heading = function_heading Neon f }) all, h) refl
+items_keep (Table d static ∷ us) i all x c h = items_keep us (i + 1) all x c h
+
+same : (x : List ℕ) → same_name x x ≡ true
+same x = (bytes_eq-Decides x x).1 refl
+
+none_before : (i : ℕ) → nat_lt i i ≡ false
+none_before i = grind (arith, nat_tests)
+
+not_before : (us : List External) (f : Definition) (i : ℕ) (all : List (List ℕ × Callee)) → named f.name all ≡ None → is_before (named f.name (with_items Neon (i + 1) us (with_one i f all))) i ≡ false
+not_before us f i all h =
+    rw (items_keep us (i + 1) (with_one i f all) f.name (record { order = i; heading = function_heading Neon f })
+    (rw (named_more f.name f.name (record { order = i; heading = function_heading Neon f }) all, h, same f.name) refl))
+    (none_before i)
+
+-- the names of functions that are read
+no_row_items : (names : List (List ℕ)) (us ws : List External) (i : ℕ) (all : List (List ℕ × Callee)) → first_outside names us ≡ None → map stripped_external ws ≡ map stripped_external (moved_unit us) → HasNoRow all → HasNoRow (with_items Neon i ws all)
+no_row_items names [] [] i all h same none = none
+no_row_items names [] (w ∷ ws) i all h same none = absurd (cc)
+no_row_items names (u ∷ us) [] i all h same none = absurd (cc)
+no_row_items names (Function f ∷ us) (Function g ∷ ws) i all h same none =
+    let a = item_passes names (Function f) us h in
+    let one : stripped_definition g ≡ stripped_definition (moved_function f) = cc in
+    let rest : map stripped_external ws ≡ map stripped_external (moved_unit us) = cc in
+    no_row_items (names ++ f.name ∷ []) us ws (i + 1) (with_heading Neon i g all) a.1 rest
+    (λ op. go op (ap (λ d. d.name) one) (free_name f (split_and (is_function f) (not (is_in names f.name)) a.0).0) (is_some (named g.name all)))
+  where
+    go : (op : BaseOp) → g.name ≡ f.name → is_free f.name ≡ true → (v : Bool) → named (neon_name (moved_row op)) (cond v all (with_one i g all)) ≡ None
+    go op name free true = none op
+    go op name free false = rw (named_more (neon_name (moved_row op)) g.name (record { order = i; heading = function_heading Neon g }) all, none op, name, other_than_neon op f.name free) refl
+no_row_items names (Function f ∷ us) (Table d static ∷ ws) i all h same none = absurd (cc)
+no_row_items names (Table d static ∷ us) (w ∷ ws) i all h same none = let a = item_passes names (Table d static) us h in absurd (cc)
 
 -- ---- the unit
 
--- a unit of the form has functions alone
-record Whole (unit : List External) : Type 0 where
-  functions_move : functions (moved_unit unit) ≡ map moved_function (functions unit)
-  no_blocks : table_blocks unit ≡ []
-  no_blocks_moved : table_blocks (moved_unit unit) ≡ []
-  no_objects : (n : ℕ) → table_objects n unit ≡ []
-  no_objects_moved : (n : ℕ) → table_objects n (moved_unit unit) ≡ []
-  all : AllFunctions (functions unit)
+-- What is read in place of a unit of the form, as far as its items behind some functions go. With its types it is this one: the same, with functions that are the same and do
+-- the same, and without tables, as the unit.
+record ReadUnit (us ws : List External) (before : List (List ℕ × Callee)) (here : ℕ) : Type 0 where
+  items : List External
+  typed : check_items ws (outside_functions before here) [] ≡ record { refusals = []; items = items }
+  same : map stripped_external items ≡ map stripped_external ws
+  headings : SameFunctions us items
+  all : AllDone (functions us) (functions items)
+  no_blocks : table_blocks us ≡ []
+  no_blocks_read : table_blocks items ≡ []
+  no_objects : (n : ℕ) → table_objects n us ≡ []
+  no_objects_read : (n : ℕ) → table_objects n items ≡ []
 
-whole : (seen : List (List ℕ)) (unit : List External) → first_outside seen unit ≡ None → Whole unit
-whole seen [] h = record { functions_move = refl; no_blocks = refl; no_blocks_moved = refl; no_objects = λ n. refl; no_objects_moved = λ n. refl; all = tt }
-whole seen (Function f ∷ xs) h =
-    let a = item_passes seen (Function f) xs h in
-    let rest = whole (seen ++ f.name ∷ []) xs a.1 in
+one_judged : (g v : Definition) (ws vs : List External) (before : List (List ℕ × Callee)) (here : ℕ) → check_function g (outside_functions before here) ≡ Ok v →
+    check_items ws (outside_functions before (here + 1)) [] ≡ record { refusals = []; items = vs } →
+    check_items (Function g ∷ ws) (outside_functions before here) [] ≡ record { refusals = []; items = Function v ∷ vs }
+one_judged g v ws vs before here h k = rw (h, k) refl
+
+items_read : (names : List (List ℕ)) (us ws : List External) (i : ℕ) (all before : List (List ℕ × Callee)) → first_outside names us ≡ None → map stripped_external ws ≡ map stripped_external (moved_unit us) →
+    before ≡ with_items Neon i ws all → Unseen names all → HasNoRow before → ReadUnit us ws before i
+items_read names [] [] i all before h same is unseen none =
+    record { items = []; typed = refl; same = refl; headings = tt; all = tt; no_blocks = refl; no_blocks_read = refl; no_objects = λ n. refl; no_objects_read = λ n. refl }
+items_read names [] (w ∷ ws) i all before h same is unseen none = absurd (cc)
+items_read names (u ∷ us) [] i all before h same is unseen none = absurd (cc)
+items_read names (Function f ∷ us) (Function g ∷ ws) i all before h same is unseen none =
+    let a = item_passes names (Function f) us h in
+    let b = split_and (is_function f) (not (is_in names f.name)) a.0 in
+    let one : stripped_definition g ≡ stripped_definition (moved_function f) = cc in
+    let others : map stripped_external ws ≡ map stripped_external (moved_unit us) = cc in
+    let name : g.name ≡ f.name = ap (λ d. d.name) one in
+    let new : named g.name all ≡ None = rw name (unseen f.name (not_in (is_in names f.name) b.1)) in
+    let grows : before ≡ with_items Neon (i + 1) ws (with_one i g all) = is ∙ ap (with_items Neon (i + 1) ws) (one_with i g all new) in
+    let first : is_before (named f.name before) i ≡ false = ap (λ x. is_before (named x before) i) (sym name) ∙ ap (λ fs. is_before (named g.name fs) i) grows ∙ not_before ws g i all new in
+    let r = function_read f g before i b.0 one first none in
+    let rest = items_read (names ++ f.name ∷ []) us ws (i + 1) (with_one i g all) before a.1 others grows
+    (subst (λ x. Unseen (names ++ x ∷ []) (with_one i g all)) name (unseen_more names g.name (record { order = i; heading = function_heading Neon g }) all unseen)) none in
     record {
-      functions_move = ap (λ fs. moved_function f ∷ fs) rest.functions_move;
+      items = Function r.function ∷ rest.items;
+      typed = one_judged g r.function ws rest.items before i r.typed rest.typed;
+      same = rw (r.same, rest.same) refl;
+      headings = (r.heading, rest.headings);
+      all = (b.0, r.heading.name, r.done, rest.all);
       no_blocks = rest.no_blocks;
-      no_blocks_moved = rest.no_blocks_moved;
+      no_blocks_read = rest.no_blocks_read;
       no_objects = rest.no_objects;
-      no_objects_moved = rest.no_objects_moved;
-      all = ((split_and (is_function f) (not (is_in seen f.name)) a.0).0, rest.all);
+      no_objects_read = rest.no_objects_read;
     }
-whole seen (Table o static ∷ xs) h = let a = item_passes seen (Table o static) xs h in absurd (cc)
+items_read names (Function f ∷ us) (Table d static ∷ ws) i all before h same is unseen none = absurd (cc)
+items_read names (Table d static ∷ us) (w ∷ ws) i all before h same is unseen none = let a = item_passes names (Table d static) us h in absurd (cc)
 
 -- outcomes of that kind match
 follows : (n : ℕ) (p q : Does (Option Value)) (s : State) → BothDone p q s → Follows n (outcome (p s)) (outcome (q s))
 follows n p q s done = rw (done.first, done.second) (refl, refl)
 
-does_the_same : (unit : List External) → first_outside [] unit ≡ None → DoesTheSame unit (moved_unit unit)
-does_the_same unit h name f args others memory turns found k m =
-    let w = whole [] unit h in
-    rw (w.functions_move, w.no_blocks_moved, w.no_objects_moved (length memory), w.no_blocks, w.no_objects (length memory))
-    (follows (length memory + length {A = MemoryBlock} []) (outermost [] (rows X86) (functions unit) name args) (outermost [] (rows Neon) (map moved_function (functions unit)) name others)
+does_the_same : (us vs : List External) → AllDone (functions us) (functions vs) → table_blocks us ≡ [] → table_blocks vs ≡ [] → ((n : ℕ) → table_objects n us ≡ []) → ((n : ℕ) → table_objects n vs ≡ []) → DoesTheSame us vs
+does_the_same us vs all no_blocks no_blocks_read no_objects no_objects_read name f args others memory turns found k m =
+    rw (no_blocks_read, no_objects_read (length memory), no_blocks, no_objects (length memory))
+    (follows (length memory + length {A = MemoryBlock} []) (outermost [] (rows X86) (functions us) name args) (outermost [] (rows Neon) (functions vs) name others)
     (record { objects = []; memory = memory ++ []; left = turns })
-    (outermost_done (functions unit) (rows X86) (rows Neon) name f args others memory (record { objects = []; memory = memory ++ []; left = turns }) rows_done w.all found k m))
+    (outermost_done (functions us) (functions vs) (rows X86) (rows Neon) name f args others memory (record { objects = []; memory = memory ++ []; left = turns }) rows_done all found k m))
 
--- ---- the whole
+-- the unit that is read has its types, and with them it is the same and does the same
+record IsRead (unit again : List External) : Type 0 where
+  typed_unit : List External
+  typed : check_unit Neon again ≡ Ok typed_unit
+  same_unit : Same typed_unit again
+  same : SameFunctions unit typed_unit
+  does_the_same : DoesTheSame unit typed_unit
+
+is_read : (us ws : List External) → first_outside [] us ≡ None → Same ws (moved_unit us) → IsRead us ws
+is_read us ws h same =
+    let r = items_read [] us ws 0 [] (with_items Neon 0 ws []) h same refl (λ x k. refl) (no_row_items [] us ws 0 [] h same (λ op. refl)) in
+    record {
+      typed_unit = r.items;
+      typed = ap answer r.typed;
+      same_unit = r.same;
+      same = r.headings;
+      does_the_same = does_the_same us r.items r.all r.no_blocks r.no_blocks_read r.no_objects r.no_objects_read;
+    }
 
 pub migrated : (source text : List ℕ) (u : List External) → HasUnit X86 source u → first_outside [] u ≡ None → text ≡ text_of (moved_unit u) → Migrated source text
-migrated source text u has form is = record {
-  unit = u;
-  written_unit = moved_unit u;
-  has_unit = has;
-  typed = unit_typed u form;
-  is_text = is;
-  again = text_again (moved_unit u) (good_unit [] u form);
-  same = functions_stay [] u form;
-  does_the_same = does_the_same u form;
-}
+migrated source text u has form is =
+    let again = text_again (moved_unit u) (good_unit [] u form) in
+    let r = is_read u again.again form again.same in
+    record {
+      unit = u;
+      written_unit = moved_unit u;
+      typed_unit = r.typed_unit;
+      has_unit = has;
+      is_text = is;
+      again = again;
+      typed = r.typed;
+      same_unit = r.same_unit ∙ again.same;
+      same = r.same;
+      does_the_same = r.does_the_same;
+    }

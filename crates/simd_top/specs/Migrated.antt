@@ -2,6 +2,7 @@
 use Rattle.std.specs.Prelude.{◌≡◌, ℕ, ◌+◌, List, [], ◌∷◌, length, map, Some, Ok}
 use Rattle.c_text.specs.declared.tokens.Dialect.TheVariants.{X86, Neon}
 use Rattle.c_print.specs.Text.{text_of}
+use Rattle.c_tree.specs.Same.{Same}
 use Rattle.c_tree.specs.Tree.{Definition, External, Function}
 use Rattle.c_memory.specs.declared.blocks.Block.{Block}
 use Rattle.c_memory.specs.declared.value.Value.{Value}
@@ -45,14 +46,16 @@ DoesTheSame unit written =
     function_named name unit ≡ Some f → AreArguments memory (types_of f.params) args → ArgumentsMatch args others →
     Follows (length memory + length (table_blocks unit)) (means (rows X86) unit name args memory turns) (means (rows Neon) written name others memory turns)
 
--- The source is a unit that has types. The written text is the text of a Neon unit that has its types; it is read again as that unit, whose functions are
--- the same and do the same.
+-- The source is a unit that has types. The written text is the text of a Neon unit, and is read again as the same unit. What is read has types, and its functions
+-- are the source's and do the same.
 pub record Migrated (source written : List ℕ) : Type 0 where
   pub unit : List External
   pub written_unit : List External
+  pub typed_unit : List External
   pub has_unit : HasUnit X86 source unit
-  pub typed : check_unit Neon written_unit ≡ Ok written_unit
   pub is_text : written ≡ text_of written_unit
   pub again : ReadAgain written_unit
-  pub same : SameFunctions unit written_unit
-  pub does_the_same : DoesTheSame unit written_unit
+  pub typed : check_unit Neon again.again ≡ Ok typed_unit
+  pub same_unit : Same typed_unit written_unit
+  pub same : SameFunctions unit typed_unit
+  pub does_the_same : DoesTheSame unit typed_unit

@@ -1,0 +1,179 @@
+-- The parameters of a function that is read in place of one of the form.
+use Rattle.std.proofs.Common.{◌≡◌, ℕ, List, [], ◌∷◌, ◌++◌, map, Bool, true, false, cond, ◌||◌, ◌&&◌, not, Option, Some, None, Ok, is_some, is_none, refl, sym, ◌∙◌, ap, subst}
+use Rattle.std.specs.Prelude.{option_map}
+use Rattle.c_text.specs.declared.tokens.Place.{Place}
+use Rattle.neon_table.specs.Rows as neon_table
+use Rattle.c_tree.specs.declared.types.CType.{CType}
+use Rattle.c_tree.specs.declared.types.CType.TheVariants.{Void, Int, M128, M256, Neon, Pair, Pointer, Array}
+use Rattle.c_tree.specs.Tree.{Tree, Trees, Object}
+use Rattle.c_tree.specs.Same.{unnumbered, stripped, stripped_all, stripped_object}
+use Rattle.scopes.specs.Scopes.{Env, Scope, Callee, named, same_name, or_else, with_object}
+use Rattle.scopes.specs.declared.environment.Object.{Object as Known}
+use Rattle.object_types.specs.Objects.{known as known_object}
+use Rattle.statement_types.specs.Statements.{with_objects}
+use Rattle.vector_types.specs.Functions.{check_parameter, check_parameters}
+use Rattle.simd_top.specs.Rows.{neon_name, moved_row}
+use Rattle.simd_top.specs.Form.{is_in, is_free, is_plain, is_parameter, are_parameters, names_of, is_register}
+use Rattle.simd_top.specs.Written.{register, moved_type, moved_object}
+use Rattle.simd_top.proofs.Conjunction.{split_and}
+use Rattle.simd_top.proofs.Expressions.{seen, known, HasNoRow}
+use Rattle.simd_top.proofs.Good.{none_is}
+use Rattle.simd_top.proofs.FreeNames.{neither, no_neon_row, other_than_neon}
+use Rattle.simd_top.proofs.Parameters.{Heads, m128}
+
+-- the scope once these parameters are declared
+abbrev pub grown : Scope → List Object → Scope
+grown scope [] = scope
+grown scope (d ∷ ds) = grown (scope ++ (d.name, known d.constant) ∷ []) ds
+
+-- what a name stands for with one more object
+pub named_more : {V : Type 0} (x y : List ℕ) (v : V) (all : List (List ℕ × V)) → named x (all ++ (y, v) ∷ []) ≡ or_else (named x all) (cond (same_name x y) (Some v) None)
+named_more x y v [] = refl
+named_more x y v (e ∷ all) = go (same_name x e.0) (named_more x y v all)
+  where
+    go : (w : Bool) → named x (all ++ (y, v) ∷ []) ≡ or_else (named x all) (cond (same_name x y) (Some v) None) →
+        cond w (Some e.1) (named x (all ++ (y, v) ∷ [])) ≡ or_else (cond w (Some e.1) (named x all)) (cond (same_name x y) (Some v) None)
+    go true h = refl
+    go false h = h
+
+-- an object with its fields as the form wants them
+plain_object : (d : Object) → is_plain d ≡ true → (d.length ≡ None) × (d.align ≡ None) × (d.init ≡ None) × (d.list ≡ None) × (d.ty ≡ M128)
+plain_object d h =
+    let a = split_and (is_register d.ty && not d.constant && is_none d.length && is_none d.align && is_none d.init) (is_none d.list) h in
+    let b = split_and (is_register d.ty && not d.constant && is_none d.length && is_none d.align) (is_none d.init) a.0 in
+    let c = split_and (is_register d.ty && not d.constant && is_none d.length) (is_none d.align) b.0 in
+    let e = split_and (is_register d.ty && not d.constant) (is_none d.length) c.0 in
+    (none_is d.length e.1, none_is d.align c.1, none_is d.init b.1, none_is d.list a.1, m128 d.ty (split_and (is_register d.ty) (not d.constant) e.0).0)
+
+-- a parameter with its type
+object_typed : (p : Place) (x : List ℕ) (constant : Bool) (scope : Scope) (functions : List (List ℕ × Callee)) (here : ℕ) (calls_none : Bool) →
+    is_some (neon_table.find_of x) ≡ false → named x scope ≡ None →
+    check_parameter (record { place = p; name = x; ty = register; length = None; constant = constant; align = None; init = None; list = None }) (seen scope functions here calls_none)
+    ≡ Ok (record { place = p; name = x; ty = register; length = None; constant = constant; align = None; init = None; list = None })
+object_typed p x constant scope functions here calls_none a b = rw (a, b) refl
+
+one_more : (d : Object) (ds : List Object) (env : Env) → check_parameter d env ≡ Ok d → check_parameters ds (with_object d.name (known_object d.constant d.ty) env) ≡ Ok ds → check_parameters (d ∷ ds) env ≡ Ok (d ∷ ds)
+one_more d ds env h k = rw (h, k) refl
+
+-- names that were not seen are in no scope of those that were
+abbrev pub Unseen : {V : Type 0} → List (List ℕ) → List (List ℕ × V) → Type 0
+Unseen names all = (x : List ℕ) → is_in names x ≡ false → named x all ≡ None
+
+in_more : (names : List (List ℕ)) (x y : List ℕ) → is_in (names ++ y ∷ []) x ≡ false → (is_in names x ≡ false) × (same_name x y ≡ false)
+in_more [] x y h = (refl, (neither (same_name x y) false h).0)
+in_more (z ∷ names) x y h =
+    let a = neither (same_name x z) (is_in (names ++ y ∷ []) x) h in
+    let b = in_more names x y a.1 in
+    (rw (a.0) b.0, b.1)
+
+pub unseen_more : {V : Type 0} (names : List (List ℕ)) (y : List ℕ) (v : V) (all : List (List ℕ × V)) → Unseen names all → Unseen (names ++ y ∷ []) (all ++ (y, v) ∷ [])
+unseen_more names y v all h x k = let a = in_more names x y k in rw (named_more x y v all, h x a.0, a.1) refl
+
+pub not_in : (v : Bool) → not v ≡ true → v ≡ false
+not_in true h = absurd (cc)
+not_in false h = refl
+
+-- ---- what is read in place of parameters
+
+-- the parameter that is read for one of the form, at its place
+abbrev pub written_parameter : Place → Object → Object
+written_parameter p d = record { place = p; name = d.name; ty = register; length = None; constant = d.constant; align = None; init = None; list = None }
+
+abbrev pub AreRead : List Object → List Object → Type 0
+AreRead [] [] = Unit {0}
+AreRead (d ∷ ds) (e ∷ es) = (e ≡ written_parameter e.place d) × AreRead ds es
+AreRead ds es = ⊥
+
+object_is : (e : Object) (x : List ℕ) (t : CType) (l : Option Tree) (c : Bool) (a i : Option Tree) (s : Option Trees) →
+    e.name ≡ x → e.ty ≡ t → e.length ≡ l → e.constant ≡ c → e.align ≡ a → e.init ≡ i → e.list ≡ s →
+    e ≡ record { place = e.place; name = x; ty = t; length = l; constant = c; align = a; init = i; list = s }
+object_is e x t l c a i s name type length constant align init list = rw⁻¹ (name, type, length, constant, align, init, list) refl
+
+none_left : {A B : Type 0} (f : A → B) (o : Option A) (p : Option B) → option_map f o ≡ p → p ≡ None → o ≡ None
+none_left f None p h k = refl
+none_left f (Some a) p h k = absurd (cc)
+
+pub register_left : (t : CType) → unnumbered t ≡ register → t ≡ register
+register_left Void h = h
+register_left (Int s) h = h
+register_left M128 h = h
+register_left M256 h = h
+register_left (Neon l w) h = h
+register_left Pair h = h
+register_left (Pointer e c) h = h
+register_left (Array e n c) h = absurd (cc)
+
+object_read : (d e : Object) → is_plain d ≡ true → stripped_object e ≡ stripped_object (moved_object d) → e ≡ written_parameter e.place d
+object_read d e h same =
+    let (length, align, init, list, ty) = plain_object d h in
+    object_is e d.name register None d.constant None None None
+    (ap (λ o. o.name) same) (register_left e.ty (ap (λ o. o.ty) same ∙ ap (λ t. unnumbered (moved_type t)) ty))
+    (none_left stripped e.length (option_map stripped d.length) (ap (λ o. o.length) same) (ap (option_map stripped) length)) (ap (λ o. o.constant) same)
+    (none_left stripped e.align (option_map stripped d.align) (ap (λ o. o.align) same) (ap (option_map stripped) align))
+    (none_left stripped e.init (option_map stripped d.init) (ap (λ o. o.init) same) (ap (option_map stripped) init))
+    (none_left stripped_all e.list (option_map stripped_all d.list) (ap (λ o. o.list) same) (ap (option_map stripped_all) list))
+
+pub parameters_read : (names : List (List ℕ)) (ds es : List Object) → are_parameters names ds ≡ true → map stripped_object es ≡ map stripped_object (map moved_object ds) → AreRead ds es
+parameters_read names [] [] h same = tt
+parameters_read names [] (e ∷ es) h same = absurd (cc)
+parameters_read names (d ∷ ds) [] h same = absurd (cc)
+parameters_read names (d ∷ ds) (e ∷ es) h same =
+    let a = split_and (is_parameter names d) (are_parameters (names ++ d.name ∷ []) ds) h in
+    let b = split_and (is_plain d && is_free d.name) (not (is_in names d.name)) a.0 in
+    let one : stripped_object e ≡ stripped_object (moved_object d) = cc in
+    let rest : map stripped_object es ≡ map stripped_object (map moved_object ds) = cc in
+    (object_read d e (split_and (is_plain d) (is_free d.name) b.0).0 one, parameters_read (names ++ d.name ∷ []) ds es a.1 rest)
+
+pub parameters_typed : (names : List (List ℕ)) (ds es : List Object) (scope : Scope) (functions : List (List ℕ × Callee)) (here : ℕ) (calls_none : Bool) → are_parameters names ds ≡ true → Unseen names scope → AreRead ds es →
+    check_parameters es (seen scope functions here calls_none) ≡ Ok es
+parameters_typed names [] [] scope functions here calls_none h unseen are = refl
+parameters_typed names [] (e ∷ es) scope functions here calls_none h unseen are = absurd are
+parameters_typed names (d ∷ ds) [] scope functions here calls_none h unseen are = absurd are
+parameters_typed names (d ∷ ds) (e ∷ es) scope functions here calls_none h unseen are =
+    let a = split_and (is_parameter names d) (are_parameters (names ++ d.name ∷ []) ds) h in
+    let b = split_and (is_plain d && is_free d.name) (not (is_in names d.name)) a.0 in
+    let c = split_and (is_plain d) (is_free d.name) b.0 in
+    subst {A = Object} (λ o. check_parameters (o ∷ es) (seen scope functions here calls_none) ≡ Ok (o ∷ es)) (sym are.0)
+    (one_more (written_parameter e.place d) es (seen scope functions here calls_none)
+    (object_typed e.place d.name d.constant scope functions here calls_none (no_neon_row d.name c.1) (unseen d.name (not_in (is_in names d.name) b.1)))
+    (parameters_typed (names ++ d.name ∷ []) ds es (scope ++ (d.name, known d.constant) ∷ []) functions here calls_none a.1 (unseen_more names d.name (known d.constant) scope unseen) are.1))
+
+pub objects_grow : (ds es : List Object) (scope : Scope) (functions : List (List ℕ × Callee)) (here : ℕ) (calls_none : Bool) → AreRead ds es →
+    with_objects es (seen scope functions here calls_none) ≡ seen (grown scope ds) functions here calls_none
+objects_grow [] [] scope functions here calls_none are = refl
+objects_grow [] (e ∷ es) scope functions here calls_none are = absurd are
+objects_grow (d ∷ ds) [] scope functions here calls_none are = absurd are
+objects_grow (d ∷ ds) (e ∷ es) scope functions here calls_none are =
+    subst {A = Object} (λ o. with_objects (o ∷ es) (seen scope functions here calls_none) ≡ seen (grown scope (d ∷ ds)) functions here calls_none) (sym are.0)
+    (objects_grow ds es (scope ++ (d.name, known d.constant) ∷ []) functions here calls_none are.1)
+
+pub read_heads : (names : List (List ℕ)) (ds es : List Object) → are_parameters names ds ≡ true → AreRead ds es → Heads moved_type es ds
+read_heads names [] [] h are = tt
+read_heads names [] (e ∷ es) h are = absurd are
+read_heads names (d ∷ ds) [] h are = absurd are
+read_heads names (d ∷ ds) (e ∷ es) h are =
+    let a = split_and (is_parameter names d) (are_parameters (names ++ d.name ∷ []) ds) h in
+    let b = split_and (is_plain d && is_free d.name) (not (is_in names d.name)) a.0 in
+    let (length, align, init, list, ty) = plain_object d (split_and (is_plain d) (is_free d.name) b.0).0 in
+    (ap (λ o. o.name) are.0, ap (λ o. o.ty) are.0 ∙ sym (ap moved_type ty), read_heads (names ++ d.name ∷ []) ds es a.1 are.1)
+
+stays_known : (ds : List Object) (scope : Scope) (x : List ℕ) (o : Known) → named x scope ≡ Some o → named x (grown scope ds) ≡ Some o
+stays_known [] scope x o h = h
+stays_known (d ∷ ds) scope x o h = stays_known ds (scope ++ (d.name, known d.constant) ∷ []) x o (rw (named_more x d.name (known d.constant) scope, h) refl)
+
+pub are_known : (ds : List Object) (scope : Scope) (x : List ℕ) → named x scope ≡ None → is_in (names_of ds) x ≡ true → (constant : Bool) × (named x (grown scope ds) ≡ Some (known constant))
+are_known [] scope x h k = absurd (cc)
+are_known (d ∷ ds) scope x h k = go (same_name x d.name) refl (λ e. are_known ds (scope ++ (d.name, known d.constant) ∷ []) x (rw (named_more x d.name (known d.constant) scope, h, e) refl)) k
+  where
+    go : (v : Bool) → same_name x d.name ≡ v → (same_name x d.name ≡ false → is_in (names_of ds) x ≡ true → (constant : Bool) × (named x (grown (scope ++ (d.name, known d.constant) ∷ []) ds) ≡ Some (known constant))) →
+        (v || is_in (names_of ds) x) ≡ true → (constant : Bool) × (named x (grown (scope ++ (d.name, known d.constant) ∷ []) ds) ≡ Some (known constant))
+    go true e later is = (d.constant, stays_known ds (scope ++ (d.name, known d.constant) ∷ []) x (known d.constant) (rw (named_more x d.name (known d.constant) scope, h, e) refl))
+    go false e later is = later e is
+
+pub no_row_grown : (names : List (List ℕ)) (ds : List Object) (scope : Scope) → are_parameters names ds ≡ true → HasNoRow scope → HasNoRow (grown scope ds)
+no_row_grown names [] scope h none = none
+no_row_grown names (d ∷ ds) scope h none =
+    let a = split_and (is_parameter names d) (are_parameters (names ++ d.name ∷ []) ds) h in
+    let b = split_and (is_plain d && is_free d.name) (not (is_in names d.name)) a.0 in
+    no_row_grown (names ++ d.name ∷ []) ds (scope ++ (d.name, known d.constant) ∷ []) a.1
+    (λ op. rw (named_more (neon_name (moved_row op)) d.name (known d.constant) scope, none op, other_than_neon op d.name (split_and (is_plain d) (is_free d.name) b.0).1) refl)
