@@ -11,6 +11,8 @@ mod Headings
 mod Lines
 mod Moved
 mod NamesSeen
+mod Numbered
+mod Numbers
 mod Parameters
 mod ReadParameters
 mod Refused

@@ -30,6 +30,15 @@ pub data IsRefused (c : Command) (source lines : List ℕ) : Type 0 where
   Beyond : length source ≤ source_limit (dialect_of c) → (unit : List External) → HasUnit (dialect_of c) source unit → (r : Refusal) → IsRefusedUnit c unit r →
       lines ≡ refusal_lines (r ∷ []) → IsRefused c source lines
 
+-- each refusal has one of the numbers that have a name
+abbrev pub AreNumbered : List Refusal → Type 0
+AreNumbered [] = Unit {0}
+AreNumbered (r ∷ rest) = (1 ≤ r.number) × (r.number ≤ 22) × AreNumbered rest
+
+-- the lines are those of such refusals
+abbrev pub AreLines : List ℕ → Type 0
+AreLines lines = (list : List Refusal) × (lines ≡ refusal_lines list) × AreNumbered list
+
 -- the unit is of the first form; a function of the name is there, and the items fit it
 abbrev pub Serves : Command → List External → Type 0
 Serves Migrate unit = first_outside [] unit ≡ None

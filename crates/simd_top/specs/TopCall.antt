@@ -8,7 +8,7 @@ use Rattle.simd_top.specs.declared.due.Due.{Due}
 use Rattle.simd_top.specs.declared.due.Due.TheVariants as due
 use Rattle.simd_top.specs.Migrated.{Migrated}
 use Rattle.simd_top.specs.Ran.{Ran}
-use Rattle.simd_top.specs.Refusals.{IsRefused, IsAdmitted}
+use Rattle.simd_top.specs.Refusals.{IsRefused, AreLines, IsAdmitted}
 use Rattle.simd_top.specs.Source.{source_limit}
 use Rattle.simd_top.specs.Words.{Command, Migrate, Run, dialect_of, asked}
 
@@ -66,9 +66,9 @@ Breaks text old new faults faults_now = Rose faults faults_now × GrewInPart old
 abbrev pub Answers : Status → List (List ℕ) → Option (List ℕ) → Option (List ℕ) → Option (List ℕ) → Option (List ℕ) → Type 0
 Answers status words before after old new = (c : Command) × (asked words ≡ Some c) × (text : List ℕ) × Writes c status before after text × Grew old text new
 
--- the words ask for a command, and the report grew by the lines that say why the source is refused
+-- the words ask for a command, and the report grew by the lines that say why the source is refused, each with a number from 1 to 22
 abbrev pub Reports : List (List ℕ) → Option (List ℕ) → Option (List ℕ) → Option (List ℕ) → Type 0
-Reports words before old new = (c : Command) × (asked words ≡ Some c) × (lines : List ℕ) × Refuses c before lines × Grew old lines new
+Reports words before old new = (c : Command) × (asked words ≡ Some c) × (lines : List ℕ) × Refuses c before lines × AreLines lines × Grew old lines new
 
 -- the words ask for no command
 abbrev pub AsksNothing : List (List ℕ) → Type 0

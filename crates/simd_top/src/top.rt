@@ -85,7 +85,7 @@ fn finish<K: Sink>(sink: &mut K, text: &[u8], status: Status) -> Status
 /// The words that are built are `migrate` alone, and `run` with a dialect, a name, a bound on turns and items. Everything is made before the
 /// first byte is written, and only one of the sinks is written to. Memory may run out in place of every status but `Usage` and
 /// `WriteFault`; no clause says when.
-#[tactic(auto, using(crate::proofs::Excluded::served_stays))]
+#[tactic(auto, using(crate::proofs::Excluded::served_stays, crate::proofs::Numbered::refuses_lines))]
 pub fn simdmove<S: Source, O: Sink, E: Sink>(
     alloc: Global,
     words: &[String],
@@ -104,7 +104,7 @@ pub fn simdmove<S: Source, O: Sink, E: Sink>(
     ensures turns { result ≡ Status.Turns → (report.new ≡ report.old)
         × Answers Status.Turns (map (λ w. string_bytes w) words.now) (S.left source.old) (S.left source.new) (O.held out.old) (O.held out.new) }
 
-    // The source is refused: `report` grew by the lines that are due.
+    // The source is refused: `report` grew by the lines that are due, of refusals with numbers from 1 to 22.
     ensures refused { result ≡ Status.Refused → (out.new ≡ out.old)
         × Reports (map (λ w. string_bytes w) words.now) (S.left source.old) (E.held report.old) (E.held report.new) }
 
