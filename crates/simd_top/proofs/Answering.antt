@@ -1,5 +1,5 @@
 -- What is due for a unit is what its source calls for.
-use Rattle.std.proofs.Common.{◌≡◌, ◌≤◌, ℕ, List, [], ◌∷◌, length, Some, Result, Ok, Err, IfOk, subst}
+use Rattle.std.proofs.Common.{◌≡◌, ◌≤◌, ℕ, List, [], ◌∷◌, length, Some, Result, Ok, Err, IfOk, refl, subst}
 use Rattle.c_tree.specs.Tree.{External}
 use Rattle.simd_top.specs.declared.due.Due.{Due}
 use Rattle.simd_top.specs.declared.due.Due.TheVariants as due
@@ -21,13 +21,17 @@ use Rattle.simd_top.specs.Form.{first_outside}
 use Rattle.simd_top.specs.Refusals.{at_the_start, IsRefusedUnit, Outside, Nameless, Unfit, IsRefused, First, Beyond}
 use Rattle.simd_top.specs.Source.{source_limit, HasUnit, AreFirst}
 use Rattle.simd_top.specs.TopCall.{Calls, IsAnswer}
-use Rattle.simd_top.specs.Words.{Command, Migrate, Run, dialect_of}
+use Rattle.simd_top.specs.Words.{Command, Migrate, Run, Both, dialect_of}
+use Rattle.simd_top.specs.Written.{moved_unit}
+use Rattle.c_print.specs.Text.{text_of}
 use Rattle.simd_top.proofs.Same.{migrated}
 
 text_calls : (c : Command) (source : List ℕ) (t : List External) (s : Status) (text : List ℕ) → HasUnit (dialect_of c) source t → IsTextOf c t s text → Calls c source s text
 text_calls Migrate source t s text has (ended, form, told) = (ended, migrated source text t has form told)
 text_calls (Run dialect name turns items) source t s text has (args, memory, fits, ended, told) =
     record { unit = t; has_unit = has; args = args; memory = memory; fits = fits; told = told; ended = ended }
+text_calls (Both name turns items) source t s text has (form, typed_unit, typed, compared) =
+    record { unit = t; written_unit = moved_unit t; typed_unit = typed_unit; has_unit = has; is_migrated = migrated source (text_of (moved_unit t)) t has form refl; typed = typed; compared = compared }
 
 pub due_answers : (c : Command) (source : List ℕ) (t : List External) (d : Due) → length source ≤ source_limit (dialect_of c) → HasUnit (dialect_of c) source t → IsDueFor c t d → IsAnswer c source d
 due_answers c source t (due.Done text) within has is = text_calls c source t status.Done text.items has is

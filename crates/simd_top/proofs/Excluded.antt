@@ -13,9 +13,9 @@ use Rattle.vector_types.specs.Units.{check_unit}
 use Rattle.simd_top.specs.Includes.{behind_includes, first_hash}
 use Rattle.simd_top.specs.Form.{first_outside}
 use Rattle.simd_top.specs.Source.{AreUnit, AreRefused, Directive, Scanned, Parsed, IsParsed, IsUnparsed, Lexed, Behind, HasUnit, AreFirst, Alone, Checked}
-use Rattle.simd_top.specs.Refusals.{IsRefusedUnit, Outside, Nameless, Unfit, IsRefused, TooLong, First, Beyond, Serves, IsAdmitted}
+use Rattle.simd_top.specs.Refusals.{IsRefusedUnit, Outside, Nameless, Unfit, OutsideBoth, NamelessBoth, UnfitBoth, IsRefused, TooLong, First, Beyond, Serves, IsAdmitted}
 use Rattle.simd_top.specs.TopCall.{Admits, Refuses, IsServed}
-use Rattle.simd_top.specs.Words.{Command, Migrate, Run, dialect_of, asked}
+use Rattle.simd_top.specs.Words.{Command, Migrate, Run, Both, dialect_of, asked}
 
 apart : {A : Type 0} (o : Option A) (x : A) → o ≡ None → o ≡ Some x → ⊥
 apart o x e h = cc
@@ -67,6 +67,9 @@ serves_stays : (c : Command) (t : List External) (r : CodeRefusal) → Serves c 
 serves_stays Migrate t r serves (Outside u q h) = apart (first_outside [] t) r serves h
 serves_stays (Run x name turns items) t r (args, memory, fits) (Nameless n k is u e) = no_function (fitting t name items) args memory fits e
 serves_stays (Run x name turns items) t r (args, memory, fits) (Unfit n k is u e) = no_fit (fitting t name items) args memory fits e
+serves_stays (Both name turns items) t r (form, args, memory, fits) (OutsideBoth n k is u q h) = apart (first_outside [] t) r form h
+serves_stays (Both name turns items) t r (form, args, memory, fits) (NamelessBoth n k is u h e) = no_function (fitting t name items) args memory fits e
+serves_stays (Both name turns items) t r (form, args, memory, fits) (UnfitBoth n k is u h e) = no_fit (fitting t name items) args memory fits e
 
 not_refused : (c : Command) (source lines : List ℕ) → IsAdmitted c source → IsRefused c source lines → ⊥
 not_refused c source lines is (TooLong long shown) = let within = is.within in omega (arith, long, within)

@@ -1,6 +1,7 @@
 mod Answering
 mod Asking
 mod Bodies
+mod BothRuns
 mod Conjunction
 mod Excluded
 mod Expressions

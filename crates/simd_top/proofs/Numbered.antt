@@ -23,7 +23,7 @@ use Rattle.c_parse.specs.Limits.{syntax_at, end_place, too_many, Refused}
 use Rattle.simd_top.specs.Form.{is_item, item_name, first_outside, outside}
 use Rattle.simd_top.specs.Includes.{behind_includes}
 use Rattle.simd_top.specs.Source.{AreRefused, Directive, Scanned, Parsed, IsUnparsed, Lexed, Behind, AreFirst, Alone, Checked}
-use Rattle.simd_top.specs.Refusals.{at_the_start, IsRefusedUnit, Outside, Nameless, Unfit, IsRefused, TooLong, First, Beyond, AreNumbered, AreLines}
+use Rattle.simd_top.specs.Refusals.{at_the_start, IsRefusedUnit, Outside, Nameless, Unfit, OutsideBoth, NamelessBoth, UnfitBoth, IsRefused, TooLong, First, Beyond, AreNumbered, AreLines}
 use Rattle.simd_top.specs.TopCall.{Refuses}
 use Rattle.simd_top.specs.Words.{Command, dialect_of}
 use Rattle.simd_top.proofs.Conjunction.{split_and}
@@ -146,6 +146,9 @@ beyond_known : (c : Command) (unit : List External) (r : Refusal) → IsRefusedU
 beyond_known c unit r (Outside u q e) = of_some (first_outside [] u) q (outside_known [] u) e
 beyond_known c unit r (Nameless name turns items u e) = refl
 beyond_known c unit r (Unfit name turns items u e) = refl
+beyond_known c unit r (OutsideBoth name turns items u q e) = of_some (first_outside [] u) q (outside_known [] u) e
+beyond_known c unit r (NamelessBoth name turns items u h e) = refl
+beyond_known c unit r (UnfitBoth name turns items u h e) = refl
 
 -- ---- the lines
 

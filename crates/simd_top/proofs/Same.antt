@@ -197,14 +197,14 @@ does_the_same us vs all no_blocks no_blocks_read no_objects no_objects_read name
     (outermost_done (functions us) (functions vs) (rows X86) (rows Neon) name f args others memory (record { objects = []; memory = memory ++ []; left = turns }) rows_done all found k m))
 
 -- the unit that is read has its types, and with them it is the same and does the same
-record IsRead (unit again : List External) : Type 0 where
-  typed_unit : List External
-  typed : check_unit Neon again ≡ Ok typed_unit
-  same_unit : Same typed_unit again
-  same : SameFunctions unit typed_unit
-  does_the_same : DoesTheSame unit typed_unit
+pub record IsRead (unit again : List External) : Type 0 where
+  pub typed_unit : List External
+  pub typed : check_unit Neon again ≡ Ok typed_unit
+  pub same_unit : Same typed_unit again
+  pub same : SameFunctions unit typed_unit
+  pub does_the_same : DoesTheSame unit typed_unit
 
-is_read : (us ws : List External) → first_outside [] us ≡ None → Same ws (moved_unit us) → IsRead us ws
+pub is_read : (us ws : List External) → first_outside [] us ≡ None → Same ws (moved_unit us) → IsRead us ws
 is_read us ws h same =
     let r = items_read [] us ws 0 [] (with_items Neon 0 ws []) h same refl (λ x k. refl) (no_row_items [] us ws 0 [] h same (λ op. refl)) in
     record {

@@ -8,6 +8,7 @@ pub mod NameSets
 pub mod Source
 pub mod Refusals
 pub mod Ran
+pub mod Compared
 pub mod Migrated
 pub mod Due
 pub mod TopCall

@@ -8,20 +8,25 @@ use Rattle.migrate_report.specs.Fits.{fitting, NoFunction, DontFit, Fit}
 use Rattle.migrate_report.specs.Lines.{refusal_lines}
 use Rattle.simd_top.specs.Form.{first_outside}
 use Rattle.simd_top.specs.Source.{source_limit, HasUnit, AreFirst}
-use Rattle.simd_top.specs.Words.{Command, Migrate, Run, dialect_of}
+use Rattle.simd_top.specs.Words.{Command, Migrate, Run, Both, dialect_of}
 
 -- a refusal of the source as a whole
 abbrev pub at_the_start : ℕ → List ℕ → Refusal
 at_the_start number detail = record { number = number; place = record { line = 1; col = 1 }; detail = detail }
 
 -- The refusal of a unit that has types: it is to be migrated, and has an item outside the first form; or a function of it is to be run, and
--- there is none of the name, or the items don't fit its parameters.
+-- there is none of the name, or the items don't fit its parameters. For both the form comes first.
 pub data IsRefusedUnit : Command → List External → Refusal → Type 0 where
   Outside : (unit : List External) (r : Refusal) → first_outside [] unit ≡ Some r → IsRefusedUnit Migrate unit r
   Nameless : {dialect : _} (name : List ℕ) (turns : ℕ) (items : List (List ℕ)) (unit : List External) → fitting unit name items ≡ NoFunction →
       IsRefusedUnit (Run dialect name turns items) unit (at_the_start 21 name)
   Unfit : {dialect : _} (name : List ℕ) (turns : ℕ) (items : List (List ℕ)) (unit : List External) → fitting unit name items ≡ DontFit →
       IsRefusedUnit (Run dialect name turns items) unit (at_the_start 22 name)
+  OutsideBoth : (name : List ℕ) (turns : ℕ) (items : List (List ℕ)) (unit : List External) (r : Refusal) → first_outside [] unit ≡ Some r → IsRefusedUnit (Both name turns items) unit r
+  NamelessBoth : (name : List ℕ) (turns : ℕ) (items : List (List ℕ)) (unit : List External) → first_outside [] unit ≡ None → fitting unit name items ≡ NoFunction →
+      IsRefusedUnit (Both name turns items) unit (at_the_start 21 name)
+  UnfitBoth : (name : List ℕ) (turns : ℕ) (items : List (List ℕ)) (unit : List External) → first_outside [] unit ≡ None → fitting unit name items ≡ DontFit →
+      IsRefusedUnit (Both name turns items) unit (at_the_start 22 name)
 
 -- The source is refused with these lines: it is too long; it is no unit that has types; or its unit is refused.
 pub data IsRefused (c : Command) (source lines : List ℕ) : Type 0 where
@@ -43,6 +48,7 @@ AreLines lines = (list : List Refusal) × (lines ≡ refusal_lines list) × AreN
 abbrev pub Serves : Command → List External → Type 0
 Serves Migrate unit = first_outside [] unit ≡ None
 Serves (Run dialect name turns items) unit = (args : List Value) × (memory : List Block) × (fitting unit name items ≡ Fit args memory)
+Serves (Both name turns items) unit = (first_outside [] unit ≡ None) × (args : List Value) × (memory : List Block) × (fitting unit name items ≡ Fit args memory)
 
 -- the source is a unit that is admitted: within the limit, with types, and one that serves
 pub record IsAdmitted (c : Command) (source : List ℕ) : Type 0 where

@@ -6,11 +6,12 @@ use Rattle.vector_types.specs.declared.units.CheckFail.{CheckFail}
 use Rattle.vector_types.specs.declared.units.CheckFail.TheVariants.{Refused, Memory}
 use Rattle.simd_top.specs.declared.words.Command.{Command as CodeCommand}
 use Rattle.simd_top.specs.declared.words.Command.TheVariants as code
-use Rattle.simd_top.specs.Words.{Command, Migrate, Run}
+use Rattle.simd_top.specs.Words.{Command, Migrate, Run, Both}
 
 abbrev pub command_of : CodeCommand → Command
 command_of code.Migrate = Migrate
 command_of (code.Run dialect name turns items) = Run dialect name.now turns (map (λ w. string_bytes w) items.now)
+command_of (code.Both name turns items) = Both name.now turns (map (λ w. string_bytes w) items.now)
 
 -- the refusal of an early phase as a list; memory may run out for it
 abbrev pub IsAlone : Fail → CheckFail → Type 0

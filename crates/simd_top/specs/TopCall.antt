@@ -1,24 +1,40 @@
 -- What the top call does, status by status. The source tells that it has left `before`, and what is left afterwards is
 -- `after`; the sinks hold `old`, and hold `new` afterwards.
-use Rattle.std.specs.Prelude.{◌≡◌, ◌≤◌, ℕ, List, [], length, Option, Some, None, ◌⊎◌, codes}
+use Rattle.std.specs.Prelude.{◌≡◌, ◌≤◌, ℕ, List, [], length, Option, Some, None, Ok, ◌⊎◌, codes}
 use Rattle.mig_io.specs.Outside.{Rose, Grew, GrewInPart}
 use Rattle.simd_top.specs.declared.status.Status.{Status}
 use Rattle.simd_top.specs.declared.status.Status.TheVariants.{Done, Undefined, Turns, WriteFault}
 use Rattle.simd_top.specs.declared.due.Due.{Due}
 use Rattle.simd_top.specs.declared.due.Due.TheVariants as due
+use Rattle.c_text.specs.declared.tokens.Dialect.TheVariants.{X86, Neon}
+use Rattle.c_tree.specs.Tree.{External}
+use Rattle.c_print.specs.Text.{text_of}
+use Rattle.vector_types.specs.Units.{check_unit}
+use Rattle.simd_top.specs.Compared.{IsCompared}
 use Rattle.simd_top.specs.Migrated.{Migrated}
 use Rattle.simd_top.specs.Ran.{Ran}
 use Rattle.simd_top.specs.Refusals.{IsRefused, AreLines, IsAdmitted}
-use Rattle.simd_top.specs.Source.{source_limit}
-use Rattle.simd_top.specs.Words.{Command, Migrate, Run, dialect_of, asked}
+use Rattle.simd_top.specs.Source.{source_limit, HasUnit}
+use Rattle.simd_top.specs.Words.{Command, Migrate, Run, Both, dialect_of, asked}
 
 abbrev pub usage_line : List ℕ
 usage_line = codes "usage: simdmove migrate [KIND=PRICE].. | profile | run x86|neon NAME TURNS ITEM.. | both NAME TURNS ITEM.. | sample K [migrate]\n"
+
+-- The source is a unit, and its function ran in it and in the unit that the written text of it is, with its types: the text tells both runs.
+pub record RanBoth (name : List ℕ) (turns : ℕ) (items : List (List ℕ)) (source : List ℕ) (status : Status) (text : List ℕ) : Type 0 where
+  pub unit : List External
+  pub written_unit : List External
+  pub typed_unit : List External
+  pub has_unit : HasUnit X86 source unit
+  pub is_migrated : Migrated source (text_of written_unit)
+  pub typed : check_unit Neon written_unit ≡ Ok typed_unit
+  pub compared : IsCompared unit typed_unit name turns items text status
 
 -- what the bytes of a source call for: the text for the output, and the status
 abbrev pub Calls : Command → List ℕ → Status → List ℕ → Type 0
 Calls Migrate source status text = (status ≡ Done) × Migrated source text
 Calls (Run dialect name turns items) source status text = Ran dialect name turns items source status text
+Calls (Both name turns items) source status text = RanBoth name turns items source status text
 
 -- The source calls for the text and the status, and all of it was read; of a source that doesn't tell its bytes some source calls for them.
 abbrev pub Writes : Command → Status → Option (List ℕ) → Option (List ℕ) → List ℕ → Type 0

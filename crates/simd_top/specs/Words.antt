@@ -13,16 +13,20 @@ pub data Command : Type 0 where
   -- the unit is read in this dialect, and its function of this name runs for at most so many turns, with the arguments and the memory
   -- that the items give
   Run : Dialect → List ℕ → ℕ → List (List ℕ) → Command
+  -- the unit is migrated, and its function of this name runs so before and after
+  Both : List ℕ → ℕ → List (List ℕ) → Command
 
 -- what stands for items are items
 abbrev pub FitsForm : Command → Type 0
 FitsForm Migrate = Unit {0}
 FitsForm (Run dialect name turns items) = IsTrue (items_fit_form items)
+FitsForm (Both name turns items) = IsTrue (items_fit_form items)
 
 -- the dialect of the source
 abbrev pub dialect_of : Command → Dialect
 dialect_of Migrate = X86
 dialect_of (Run dialect name turns items) = dialect
+dialect_of (Both name turns items) = X86
 
 abbrev pub dialect_named : List ℕ → Option Dialect
 dialect_named word = if bytes_eq word (codes "x86") then Some X86 else if bytes_eq word (codes "neon") then Some Neon else None
@@ -42,6 +46,10 @@ abbrev pub run_of : Option Dialect → List ℕ → Option ℕ → List (List �
 run_of (Some dialect) name (Some turns) items = if is_function_name name && items_fit_form items then Some (Run dialect name turns items) else None
 run_of _ name _ items = None
 
+abbrev pub both_of : List ℕ → Option ℕ → List (List ℕ) → Option Command
+both_of name (Some turns) items = if is_function_name name && items_fit_form items then Some (Both name turns items) else None
+both_of name None items = None
+
 -- behind `migrate` nothing stands
 abbrev pub asked_to_migrate : List (List ℕ) → Option Command
 asked_to_migrate [] = Some Migrate
@@ -52,9 +60,15 @@ abbrev pub asked_to_run : List (List ℕ) → Option Command
 asked_to_run (dialect ∷ name ∷ turns ∷ items) = run_of (dialect_named dialect) name (turns_of turns) items
 asked_to_run words = None
 
+-- behind `both` stand a name, the turns, and items
+abbrev pub asked_for_both : List (List ℕ) → Option Command
+asked_for_both (name ∷ turns ∷ items) = both_of name (turns_of turns) items
+asked_for_both words = None
+
 abbrev pub asked : List (List ℕ) → Option Command
 asked [] = None
 asked (word ∷ words) =
     if bytes_eq word (codes "migrate") then asked_to_migrate words
     else if bytes_eq word (codes "run") then asked_to_run words
+    else if bytes_eq word (codes "both") then asked_for_both words
     else None

@@ -1,21 +1,26 @@
 //! What is due for a unit that has types.
 
-ghost use Rattle.std.specs.Prelude.{◌≡◌, IfOk, IsTrue, map, string_bytes};
+ghost use Rattle.std.specs.Prelude.{◌≡◌, IfOk, IsTrue, map, string_bytes, [], None, Ok};
+ghost use Rattle.c_text.specs.declared.tokens.Dialect.TheVariants.{Neon};
+ghost use Rattle.vector_types.specs.Units.{check_unit};
+ghost use Rattle.simd_top.specs.Form.{first_outside};
 ghost use Rattle.c_print.specs.Text.{text_of};
 ghost use Rattle.c_tree.specs.View.{view_unit};
 ghost use Rattle.migrate_report.specs.Items.{items_fit_form};
 ghost use Rattle.c_memory.specs.Outcomes.{outcome_of};
 ghost use Rattle.migrate_report.specs.Texts.{run_text};
-ghost use Rattle.simd_top.specs.Due.{IsDueFor, status_due, text_due};
+ghost use Rattle.simd_top.specs.Due.{IsDueFor, Shows, status_due, text_due};
 ghost use Rattle.simd_top.specs.Ran.{status_of};
 ghost use Rattle.simd_top.specs.Seen.{command_of};
-ghost use Rattle.simd_top.specs.Words.{Migrate, Run, FitsForm};
+ghost use Rattle.simd_top.specs.Words.{Migrate, Run, Both, FitsForm};
 ghost use Rattle.simd_top.specs.Written.{moved_unit};
 
+use crate::comparing::both_text;
 use crate::form::first_outside;
 use crate::moving::moved_unit;
 use crate::refusals::{line_at_the_start, line_of};
 use crate::running::outcome;
+use crate::status::Status;
 use crate::words::Command;
 use c_meaning::Outcome;
 use c_print::print;
@@ -23,7 +28,7 @@ use c_text::Dialect;
 use c_tree::Unit;
 use migrate_report::{FitFail, fit, outcome_text};
 use std::alloc::{AllocError, Global};
-use vector_types::TypedUnit;
+use vector_types::{CheckFail, TypedUnit, check};
 
 /// What is due to be written.
 #[derive(Drop)]
@@ -109,6 +114,80 @@ fn run_of(
     }
 }
 
+// The written unit with its types. It is never refused.
+fn written_unit(alloc: Global, unit: &Unit) -> Result<TypedUnit, AllocError>
+    requires { first_outside [] (view_unit unit.now) ≡ None }
+    ensures { IfOk result (λ v. check_unit Neon (moved_unit (view_unit unit.now)) ≡ Ok (view_unit v.unit)) }
+{
+    let moved = moved_unit(alloc, unit)?;
+    match check(alloc, &moved, Dialect::Neon) {
+        Ok(written) => Ok(written),
+        Err(CheckFail::Memory) => Err(AllocError),
+        Err(CheckFail::Refused(_)) => {
+            prove!(false);
+            Err(AllocError)
+        }
+    }
+}
+
+// The text of both runs, as the status of the first has it.
+fn compared(text: Vec<u8>, status: Status) -> Due
+    ensures { Shows status text result }
+{
+    match status {
+        Status::Undefined => Due::Undefined(text),
+        Status::Turns => Due::Turns(text),
+        _ => Due::Done(text),
+    }
+}
+
+// What is due for both runs of a function of a unit of the form.
+fn both_of(
+    alloc: Global,
+    unit: &TypedUnit,
+    name: &[u8],
+    turns: u64,
+    items: &[String],
+) -> Result<Due, AllocError>
+    requires form { first_outside [] (view_unit unit.now.unit) ≡ None }
+    requires items { IsTrue (items_fit_form (map (λ w. string_bytes w) items.now)) }
+    ensures { IfOk result (λ due. IsDueFor (Both name.now turns (map (λ w. string_bytes w) items.now)) (view_unit unit.now.unit) due) }
+{
+    let written = written_unit(alloc, unit.unit())?;
+    match both_text(alloc, unit, &written, name, items, turns) {
+        Ok((text, status)) => Ok(compared(text, status)),
+        Err(FitFail::NoFunction) => {
+            let line = line_at_the_start(alloc, 21, name)?;
+            Ok(Due::Report(line))
+        }
+        Err(FitFail::DontFit) => {
+            let line = line_at_the_start(alloc, 22, name)?;
+            Ok(Due::Report(line))
+        }
+        Err(FitFail::Memory) => Err(AllocError),
+    }
+}
+
+// The same of any unit.
+fn both(
+    alloc: Global,
+    unit: &TypedUnit,
+    name: &[u8],
+    turns: u64,
+    items: &[String],
+) -> Result<Due, AllocError>
+    requires { IsTrue (items_fit_form (map (λ w. string_bytes w) items.now)) }
+    ensures { IfOk result (λ due. IsDueFor (Both name.now turns (map (λ w. string_bytes w) items.now)) (view_unit unit.now.unit) due) }
+{
+    match first_outside(alloc, unit.unit().items.as_slice())? {
+        Some(refusal) => {
+            let line = line_of(alloc, refusal)?;
+            Ok(Due::Report(line))
+        }
+        None => both_of(alloc, unit, name, turns, items),
+    }
+}
+
 /// What is due for a unit that has types, under the command. The only error is want of memory.
 pub fn due_for(alloc: Global, command: Command<'_>, unit: &TypedUnit) -> Result<Due, AllocError>
     requires { FitsForm (command_of command) }
@@ -119,5 +198,6 @@ pub fn due_for(alloc: Global, command: Command<'_>, unit: &TypedUnit) -> Result<
         Command::Run(dialect, name, turns, items) => {
             run_of(alloc, unit, dialect, name, turns, items)
         }
+        Command::Both(name, turns, items) => both(alloc, unit, name, turns, items),
     }
 }

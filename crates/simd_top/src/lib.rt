@@ -1,9 +1,10 @@
 //! The top call of the tool: words, a source and two sinks.
 //!
-//! It runs a function of any unit of either dialect that the profile admits. Today it migrates units of one form: functions that take registers
-//! of 16 bytes and return a nest of five rows. An admitted unit of another form is refused.
+//! It runs a function of any unit of either dialect that the profile admits. Today it migrates units of one form, and runs a function of them before
+//! and after: functions that take registers of 16 bytes and return a nest of five rows. An admitted unit of another form is refused.
 #![tactic(auto)]
 
+mod comparing;
 mod due;
 mod form;
 mod front;
@@ -19,5 +20,6 @@ mod tests;
 mod top;
 mod words;
 
+pub use comparing::both_text;
 pub use status::Status;
 pub use top::simdmove;

@@ -1,5 +1,6 @@
 //! The top call over sources and sinks in memory, and the layers below it on the units of texts.
 
+mod comparing;
 mod meaning;
 mod reading;
 mod typing;
@@ -197,7 +198,7 @@ const TABLE: &[u8] =
 const LOAD: &[u8] = b"__m128i f(const __m128i *p) { return _mm_loadu_si128(p); }\n";
 
 // Words for a run, the source, and what comes.
-const RUNS: [(&[&str], &[u8], Status, &[u8]); 19] = [
+const RUNS: [(&[&str], &[u8], Status, &[u8]); 23] = [
     (
         &["run", "x86", "f", "5"],
         LOOP,
@@ -337,6 +338,36 @@ const RUNS: [(&[&str], &[u8], Status, &[u8]); 19] = [
         b"1:5: 12 ReservedName mg_f\n2:22: 10 UnknownName y\n",
     ),
     (
+        &[
+            "both",
+            "f",
+            "0",
+            "vec:00000000000000000000000000000001",
+            "vec:ff0000000000000000000000000000ff",
+        ],
+        ADD,
+        Status::Done,
+        b"x86\nvalue vec ff000000000000000000000000000000\nneon\nvalue vec ff000000000000000000000000000000\n",
+    ),
+    (
+        &["both", "g", "0"],
+        ADD,
+        Status::Refused,
+        b"1:1: 21 NoFunction g\n",
+    ),
+    (
+        &["both", "f", "0", "int:1"],
+        ADD,
+        Status::Refused,
+        b"1:1: 22 ArgumentsDontFit f\n",
+    ),
+    (
+        &["both", "f", "0"],
+        b"int f(void) { return 1; }\n",
+        Status::Refused,
+        b"1:5: 18 OutsideProfile f\n",
+    ),
+    (
         &["run", "neon", "f", "0"],
         b"int mg_f(void) { return 3; }\nint f(void) { return mg_f(); }\n",
         Status::Done,
@@ -377,7 +408,7 @@ fn faults_have_a_status(rt: HostRuntime) -> Result<(), Fail> {
 
 #[test]
 fn other_words_are_answered_by_the_usage_line(rt: HostRuntime) -> Result<(), Fail> {
-    let lists: [&[&str]; 16] = [
+    let lists: [&[&str]; 19] = [
         &[],
         &["migrate", "tbl=1", "tbl=2"],
         &["sample", "0"],
@@ -394,6 +425,9 @@ fn other_words_are_answered_by_the_usage_line(rt: HostRuntime) -> Result<(), Fai
         &["run", "x86", "f", "0", "block:3:rw:"],
         &["run", "neon", "f", "0", "space:1:1048576", "block:1:ro:00"],
         &["run", "neon", "f", "0", "vec:0"],
+        &["both", "f"],
+        &["both", "1f", "0"],
+        &["both", "f", "0", "vec:0"],
     ];
     for words in lists {
         let ended = run(rt.alloc(), words, ADD, &[1], &[])?;

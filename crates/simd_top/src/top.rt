@@ -82,8 +82,8 @@ fn finish<K: Sink>(sink: &mut K, text: &[u8], status: Status) -> Status
 
 /// Does what the words ask for: reads the source, and writes the text that is due to `out`, or why there is none to `report`.
 ///
-/// The words that are built are `migrate` alone, and `run` with a dialect, a name, a bound on turns and items. Everything is made before the
-/// first byte is written, and only one of the sinks is written to. Memory may run out in place of every status but `Usage` and
+/// The words that are built are `migrate` alone, `run` with a dialect, a name, a bound on turns and items, and `both` with a name, a bound and
+/// items. Everything is made before the first byte is written, and only one of the sinks is written to. Memory may run out in place of every status but `Usage` and
 /// `WriteFault`; no clause says when.
 #[tactic(auto, using(crate::proofs::Excluded::served_stays, crate::proofs::Numbered::refuses_lines))]
 pub fn simdmove<S: Source, O: Sink, E: Sink>(
@@ -93,8 +93,8 @@ pub fn simdmove<S: Source, O: Sink, E: Sink>(
     out: &mut O,
     report: &mut E,
 ) -> Status
-    // The unit is migrated, and `out` grew by the text, which is a Neon unit of the same functions; or its function ran, and `out` grew
-    // by the text that tells its value and the memory.
+    // The unit is migrated, and `out` grew by the text, which is a Neon unit whose functions do the same; or its function ran, and `out` grew
+    // by the text that tells its value and the memory; or it ran in both, and `out` grew by both texts.
     ensures done { result ≡ Status.Done → (report.new ≡ report.old)
         × Answers Status.Done (map (λ w. string_bytes w) words.now) (S.left source.old) (S.left source.new) (O.held out.old) (O.held out.new) }
 

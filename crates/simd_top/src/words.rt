@@ -1,7 +1,7 @@
 //! The words of a call.
 
 ghost use Rattle.std.specs.Prelude.{◌≡◌, option_map, map, string_bytes, IfSome};
-ghost use Rattle.simd_top.specs.Words.{FitsForm, dialect_of, dialect_named, is_function_name, turns_of, run_of, asked_to_migrate, asked_to_run, asked};
+ghost use Rattle.simd_top.specs.Words.{FitsForm, dialect_of, dialect_named, is_function_name, turns_of, run_of, both_of, asked_to_migrate, asked_to_run, asked_for_both, asked};
 ghost use Rattle.simd_top.specs.Seen.{command_of};
 
 use crate::form::is_name;
@@ -21,6 +21,8 @@ pub enum Command<'w> {
     Migrate,
     /// The unit is read in the dialect, and its function of this name runs for at most so many turns, with what the items give.
     Run(Dialect, &'w [u8], u64, &'w [String]),
+    /// The unit is migrated, and its function of this name runs so before and after.
+    Both(&'w [u8], u64, &'w [String]),
 }
 
 impl Command<'_> {
@@ -29,7 +31,7 @@ impl Command<'_> {
         ensures { result ≡ dialect_of (command_of self.entry) }
     {
         match self {
-            Command::Migrate => Dialect::X86,
+            Command::Migrate | Command::Both(_, _, _) => Dialect::X86,
             Command::Run(dialect, _, _, _) => dialect,
         }
     }
@@ -74,6 +76,22 @@ fn run_of<'w>(
     }
 }
 
+fn both_of<'w>(name: &'w [u8], turns: Option<u64>, items: &'w [String]) -> Option<Command<'w>>
+    ensures command { option_map command_of result ≡ both_of name.now turns (map (λ w. string_bytes w) items.now) }
+    ensures form { IfSome result (λ c. FitsForm (command_of c)) }
+{
+    match turns {
+        Some(turns) => {
+            if is_function_name(name) && items_fit_form(items) {
+                Some(Command::Both(name, turns, items))
+            } else {
+                None
+            }
+        }
+        None => None,
+    }
+}
+
 fn asked_to_migrate(words: &[String]) -> Option<Command<'_>>
     ensures command { option_map command_of result ≡ asked_to_migrate (map (λ w. string_bytes w) words.now) }
     ensures form { IfSome result (λ c. FitsForm (command_of c)) }
@@ -99,6 +117,20 @@ fn asked_to_run(words: &[String]) -> Option<Command<'_>>
     }
 }
 
+fn asked_for_both(words: &[String]) -> Option<Command<'_>>
+    ensures command { option_map command_of result ≡ asked_for_both (map (λ w. string_bytes w) words.now) }
+    ensures form { IfSome result (λ c. FitsForm (command_of c)) }
+{
+    match words {
+        [name, turns, items @ ..] => both_of(
+            name.as_bytes(),
+            number(turns.as_bytes(), MOST_TURNS),
+            items,
+        ),
+        _ => None,
+    }
+}
+
 /// What the words ask for, if they are words of the tool. Takes no memory.
 pub fn asked(words: &[String]) -> Option<Command<'_>>
     ensures command { option_map command_of result ≡ asked (map (λ w. string_bytes w) words.now) }
@@ -111,6 +143,8 @@ pub fn asked(words: &[String]) -> Option<Command<'_>>
                 asked_to_migrate(others)
             } else if word.as_str() == "run" {
                 asked_to_run(others)
+            } else if word.as_str() == "both" {
+                asked_for_both(others)
             } else {
                 None
             }
