@@ -211,7 +211,7 @@ left_same : (g : Definition) (p : Place) (e v : Tree) → g.body ≡ Then (Retur
     ≡ stripped_definition g
 left_same g p e v body same result = rw (body, same, result) refl
 
--- what is read with the left of a function of the form
+-- a function that is what a function of the form is moved to, but for places, types and casts that aren't written
 pub function_read : (f g : Definition) (functions : List (List ℕ × Callee)) (here : ℕ) → is_function f ≡ true → stripped_definition g ≡ stripped_definition (moved_function f) →
     is_before (named f.name functions) here ≡ false → HasNoRow functions → ReadFunction f g functions here
 function_read f g functions here h same before none =

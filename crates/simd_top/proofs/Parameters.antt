@@ -44,7 +44,7 @@ bindings g (z ∷ zs) = binding g z.0 z.1 ∷ bindings g zs
 abbrev pub state : (CType → CType) → Pairs → List Block → ℕ → State
 state g zs memory left = record { objects = bindings g zs; memory = memory; left = left }
 
-equal : (x : List ℕ) → bytes_eq x x ≡ true
+pub equal : (x : List ℕ) → bytes_eq x x ≡ true
 equal x = (bytes_eq-Decides x x).1 refl
 
 one_begins : (g : CType → CType) (body : Statements) (o d : Object) (r : List ℕ) (os : List Object) (rs : List (List ℕ)) (zs : Pairs) (memory : List Block) (left : ℕ) → o.name ≡ d.name → o.ty ≡ g d.ty → takes_statements d.name body ≡ false →

@@ -3,14 +3,13 @@ use Rattle.std.proofs.Common.{◌≡◌, ℕ, ◌+◌, List, [], ◌∷◌, ◌+
 use Rattle.std.specs.Prelude.{find, nat_lt}
 use Rattle.std.specs.Str.{bytes_eq}
 use Rattle.std.proofs.lemmas.Bool.Decides.{nat_tests}
-use Rattle.std.proofs.lemmas.Slice.Eq.{bytes_eq-Decides}
 use Rattle.c_text.specs.declared.tokens.Dialect.TheVariants.{X86, Neon}
 use Rattle.intel_base.specs.declared.BaseOp.{BaseOp}
 use Rattle.c_tree.specs.Tree.{Definition, External, Function, Table}
 use Rattle.c_tree.specs.Same.{stripped_definition, stripped_external, Same}
 use Rattle.c_print.specs.Text.{text_of}
 use Rattle.round_trip.proofs.Again.{text_again}
-use Rattle.scopes.specs.Scopes.{Callee, named, same_name}
+use Rattle.scopes.specs.Scopes.{Callee, named}
 use Rattle.vector_types.specs.Functions.{heading_of as function_heading, with_function as with_heading, with_items, is_before, check_function}
 use Rattle.vector_types.specs.Units.{check_items, answer, check_unit}
 use Rattle.c_memory.specs.declared.blocks.Block.{Block as MemoryBlock}
@@ -33,6 +32,7 @@ use Rattle.simd_top.proofs.FreeNames.{other_than_intel, other_than_neon}
 use Rattle.simd_top.proofs.Headings.{item_passes, result_and_name, heading_of}
 use Rattle.simd_top.proofs.Expressions.{DoRows, HasNoRow}
 use Rattle.simd_top.proofs.ReadParameters.{Unseen, unseen_more, named_more, not_in}
+use Rattle.simd_top.proofs.Parameters.{equal}
 use Rattle.simd_top.proofs.Bodies.{outside_functions, BothDone, function_read}
 
 -- ---- calls from outside
@@ -103,16 +103,13 @@ items_keep (Function f ∷ us) i all x c h = items_keep us (i + 1) (with_heading
     go false = rw (named_more x f.name (record { order = i; heading = function_heading Neon f }) all, h) refl
 items_keep (Table d static ∷ us) i all x c h = items_keep us (i + 1) all x c h
 
-same : (x : List ℕ) → same_name x x ≡ true
-same x = (bytes_eq-Decides x x).1 refl
-
 none_before : (i : ℕ) → nat_lt i i ≡ false
 none_before i = grind (arith, nat_tests)
 
 not_before : (us : List External) (f : Definition) (i : ℕ) (all : List (List ℕ × Callee)) → named f.name all ≡ None → is_before (named f.name (with_items Neon (i + 1) us (with_one i f all))) i ≡ false
 not_before us f i all h =
     rw (items_keep us (i + 1) (with_one i f all) f.name (record { order = i; heading = function_heading Neon f })
-    (rw (named_more f.name f.name (record { order = i; heading = function_heading Neon f }) all, h, same f.name) refl))
+    (rw (named_more f.name f.name (record { order = i; heading = function_heading Neon f }) all, h, equal f.name) refl))
     (none_before i)
 
 -- the names of functions that are read
