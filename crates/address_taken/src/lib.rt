@@ -6,8 +6,6 @@ mod marking;
 mod names;
 mod taken;
 mod takes;
-#[cfg(test)]
-mod tests;
 
 pub use taken::{FunctionTaken, Taken, address_taken};
 pub use takes::takes_statements;

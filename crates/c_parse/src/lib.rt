@@ -33,12 +33,3 @@ pub use laws::{one_expression, read_from_left_to_right};
 pub use symbols::{Infix, Part, Sign, Symbol, TypeWord, Word, token_symbol};
 pub use types::{Specifiers, base, counted, no_specifiers, pointer, with_const};
 pub use unit::{one_unit, parse};
-
-#[cfg(test)]
-mod declaration_tests;
-#[cfg(test)]
-mod expression_tests;
-#[cfg(test)]
-mod tests;
-#[cfg(test)]
-mod unit_tests;

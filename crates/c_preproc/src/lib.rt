@@ -14,6 +14,3 @@ mod words;
 
 pub use constants::constant;
 pub use scanning::scan;
-
-#[cfg(test)]
-mod tests;

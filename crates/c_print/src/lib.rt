@@ -7,8 +7,6 @@ mod constants;
 mod declarations;
 mod expressions;
 mod statements;
-#[cfg(test)]
-mod tests;
 mod types;
 mod units;
 

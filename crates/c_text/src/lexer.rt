@@ -253,6 +253,3 @@ pub fn one_token_list()
 pub fn tokens_or_fault()
     ensures { (source : List ℕ) → ((ts : List Token) × Tokens source ts) ⊎ ((r : Refusal) × FirstFault source r) }
 {}
-
-#[cfg(test)]
-mod tests;

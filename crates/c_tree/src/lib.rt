@@ -6,8 +6,6 @@
 mod expressions;
 mod same;
 mod statements;
-#[cfg(test)]
-mod tests;
 mod types;
 mod units;
 

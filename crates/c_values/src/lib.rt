@@ -8,5 +8,3 @@ mod numbers;
 pub mod objects;
 pub mod operators;
 pub mod rows;
-#[cfg(test)]
-mod tests;

@@ -4,8 +4,6 @@
 mod evaluation;
 mod expressions;
 mod sizes;
-#[cfg(test)]
-mod tests;
 
 pub use c_tree::{Expr, Num, Place};
 pub use expressions::{NotConst, eval_const};

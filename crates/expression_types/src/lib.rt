@@ -6,8 +6,6 @@ mod laws;
 mod marks;
 mod names;
 mod objects;
-#[cfg(test)]
-mod tests;
 
 pub use c_text::{Dialect, Fail, Refusal};
 pub use c_tree::{CType, Expr, ExprKind, Place, Text};

@@ -113,6 +113,3 @@ pub fn eval(op: IntelOp, args: &[Arg], imm: u16) -> Arg
         Group::Memory(row) => memory::eval(row, args, imm),
     }
 }
-
-#[cfg(test)]
-mod tests;

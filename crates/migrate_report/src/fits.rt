@@ -405,7 +405,7 @@ fn fitted(
 }
 
 /// The same as `fit` for a tree that needs no types.
-pub(crate) fn fit_unit(
+pub fn fit_unit(
     alloc: Global,
     unit: &Unit,
     name: &[u8],

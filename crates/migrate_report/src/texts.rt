@@ -196,7 +196,7 @@ fn write_done(
 }
 
 /// The same as `outcome_text` for a tree that needs no types.
-pub(crate) fn outcome_text_unit(
+pub fn outcome_text_unit(
     alloc: Global,
     unit: &Unit,
     blocks: usize,

@@ -22,19 +22,3 @@ pub fn eval(op: MoveOp, bytes: &[u8; 16]) -> [u8; 16]
         MoveOp::Vst1qU8 => *bytes,
     }
 }
-
-#[cfg(test)]
-mod tests {
-    use super::*;
-
-    const A: [u8; 16] = [
-        0, 1, 2, 127, 128, 129, 254, 255, 0, 255, 127, 128, 85, 170, 16, 200,
-    ];
-
-    #[test]
-    fn bytes_are_moved_whole(rt: HostRuntime) {
-        for op in [MoveOp::Vld1qU8, MoveOp::Vst1qU8] {
-            assert_eq!(rt; eval(op, &A), A, "at {op:?}");
-        }
-    }
-}

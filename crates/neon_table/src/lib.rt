@@ -114,6 +114,3 @@ pub fn eval(op: NeonOp, args: &[Arg], imm: u16) -> Arg
         Group::Move(row) => moves::eval(row, args, imm),
     }
 }
-
-#[cfg(test)]
-mod tests;

@@ -5,8 +5,6 @@ mod laws;
 mod objects;
 mod parts;
 mod reserved;
-#[cfg(test)]
-mod tests;
 
 pub use c_tree::{CType, Declared, Expr, Place, Text};
 pub use expression_types::{Dialect, Environment, Fail, Refusal};

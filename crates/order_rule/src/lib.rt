@@ -9,8 +9,6 @@ mod laws;
 mod memory;
 mod parts;
 mod reading;
-#[cfg(test)]
-mod tests;
 mod times;
 mod walk;
 mod writing;

@@ -2,8 +2,6 @@
 #![tactic(auto)]
 
 mod laws;
-#[cfg(test)]
-mod tests;
 
 pub use laws::{
     a_text_has_one_list_of_tokens, good_units_are_read_again, printed_units_are_read_again,

@@ -6,8 +6,6 @@
 mod environment;
 mod laws;
 mod names;
-#[cfg(test)]
-mod tests;
 
 pub use c_text::Dialect;
 pub use c_tree::{CType, Text};

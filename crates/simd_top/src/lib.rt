@@ -15,8 +15,6 @@ mod refusals;
 mod rows;
 mod running;
 mod status;
-#[cfg(test)]
-mod tests;
 mod top;
 mod words;
 

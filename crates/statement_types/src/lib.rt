@@ -5,8 +5,6 @@ mod declarations;
 mod laws;
 mod parts;
 mod statements;
-#[cfg(test)]
-mod tests;
 
 pub use c_tree::{CType, Declared, Expr, Place, Stmt};
 pub use declarations::check_objects;

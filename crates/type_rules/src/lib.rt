@@ -6,8 +6,6 @@ mod laws;
 mod operands;
 pub mod operations;
 mod passing;
-#[cfg(test)]
-mod tests;
 mod types;
 
 pub use c_text::Dialect;
