@@ -8,7 +8,7 @@ use Rattle.c_text.specs.declared.tokens.TokenKind.{TokenKind}
 use Rattle.c_text.specs.declared.tokens.TokenKind.TheVariants as kinds
 use Rattle.lane_core.specs.declared.number.BinOp.{BinOp}
 use Rattle.lane_core.specs.declared.number.BinOp.TheVariants as ops
-use Rattle.c_preproc.specs.Constant.{constant_of}
+use Rattle.c_constants.specs.Constant.{constant_of}
 use Rattle.c_tree.specs.declared.types.CType.{CType}
 use Rattle.c_tree.specs.Tree.{Tree, Kind, More}
 use Rattle.c_parse.specs.declared.symbols.Infix.{Infix}

@@ -7,7 +7,7 @@ use Rattle.c_text.specs.declared.refusals.Fail.{Fail}
 use Rattle.c_text.specs.declared.refusals.Fail.TheVariants.{Refused, Memory}
 use Rattle.c_text.specs.declared.tokens.Dialect.{Dialect}
 use Rattle.c_text.specs.declared.tokens.Token.{Token}
-use Rattle.c_preproc.specs.Scan.{IfRefused}
+use Rattle.c_text.specs.Details.{IfRefused}
 use Rattle.c_tree.specs.Tree.{Definition, External}
 use Rattle.c_parse.specs.Items.{IsUnit}
 use Rattle.c_parse.specs.ItemReading.{unit_of}

@@ -4,7 +4,7 @@ use Rattle.c_text.specs.declared.refusals.Refusal.{Refusal}
 use Rattle.c_text.specs.declared.tokens.Dialect.{Dialect}
 use Rattle.c_text.specs.declared.tokens.Place.{Place}
 use Rattle.c_text.specs.declared.tokens.Token.{Token}
-use Rattle.c_preproc.specs.Scan.{refusal_of}
+use Rattle.c_text.specs.Details.{refusal_of}
 use Rattle.c_tree.specs.Tree.{Definition, External, Function, Table}
 use Rattle.c_parse.specs.Items.{IsUnit}
 

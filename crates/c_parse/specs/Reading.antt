@@ -15,7 +15,7 @@ use Rattle.lane_core.specs.declared.number.UnOp.TheVariants.{Plus, Neg, BitNot, 
 use Rattle.lane_core.specs.declared.number.IntType.{IntType}
 use Rattle.lane_core.specs.declared.number.IntType.TheVariants.{Int}
 use Rattle.lane_core.specs.declared.number.Num.{Num}
-use Rattle.c_preproc.specs.Constant.{constant_of}
+use Rattle.c_constants.specs.Constant.{constant_of}
 use Rattle.c_tree.specs.declared.types.CType.{CType}
 use Rattle.c_tree.specs.declared.types.CType.TheVariants.{Void}
 use Rattle.c_tree.specs.declared.types.CType.TheVariants as ctypes

@@ -4,7 +4,7 @@ ghost use Rattle.std.specs.Prelude.{◌≡◌, ◌<◌, length, IfSome};
 ghost use Rattle.std.specs.Option.{option_map};
 ghost use Rattle.c_parse.specs.Reading.{signed_tree, constant_tree, constant_at, constant_front};
 
-use c_preproc::constant;
+use c_constants::constant;
 use c_text::{Place, Token};
 use c_tree::{IntType, Num};
 

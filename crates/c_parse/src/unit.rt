@@ -3,7 +3,7 @@
 ghost use Rattle.std.specs.Prelude.{◌≡◌, ◌≤◌, List, take, drop, length, IfOk, IfErr, None, option_map, Some};
 ghost use Rattle.c_text.specs.declared.tokens.Dialect.{Dialect};
 ghost use Rattle.c_text.specs.declared.tokens.Token.{Token};
-ghost use Rattle.c_preproc.specs.Scan.{IfRefused};
+ghost use Rattle.c_text.specs.Details.{IfRefused};
 ghost use Rattle.c_tree.specs.Tree.{External};
 ghost use Rattle.c_tree.specs.View.{view_unit};
 ghost use Rattle.c_parse.specs.Items.{IsUnit};

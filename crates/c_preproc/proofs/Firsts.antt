@@ -6,7 +6,8 @@ use Rattle.c_text.specs.declared.tokens.Token.{Token}
 use Rattle.c_text.specs.declared.refusals.Refusal.{Refusal}
 use Rattle.c_text.specs.declared.refusals.Fail.{Fail}
 use Rattle.c_text.specs.declared.refusals.Fail.TheVariants.{Refused, Memory}
-use Rattle.c_preproc.specs.Scan.{refusal_at, earlier, first_refusal, first_refusal_behind, Passes, IsRefused, IfRefused}
+use Rattle.c_preproc.specs.Scan.{refusal_at, earlier, first_refusal, first_refusal_behind, Passes, IsRefused}
+use Rattle.c_text.specs.Details.{IfRefused}
 
 -- a token in front of others, read from their end
 turned : (x : Token) (front before : List Token) → reverse (x ∷ front) ++ before ≡ reverse front ++ x ∷ before

@@ -7,14 +7,15 @@ use Rattle.c_text.specs.declared.refusals.Refusal.{Refusal}
 use Rattle.c_text.specs.declared.refusals.Fail.{Fail}
 use Rattle.c_text.specs.declared.refusals.Fail.TheVariants.{Refused, Memory}
 use Rattle.c_preproc.specs.declared.roles.Role.{Role}
-use Rattle.c_preproc.specs.Constant.{is_c_token}
+use Rattle.c_constants.specs.Constant.{is_c_token}
 use Rattle.c_preproc.specs.ExcludedWord.{is_excluded}
 use Rattle.c_preproc.specs.Role.{role_of, next_role}
 use Rattle.c_preproc.specs.declared.counts.Counts.{Counts}
 use Rattle.c_preproc.specs.declared.limits.Limits.{Limits}
 use Rattle.c_preproc.specs.Counts.{Shows}
 use Rattle.c_preproc.specs.Nesting.{Context, contexts_behind, counted, opens_block, file, is_too_deep, limits_of}
-use Rattle.c_preproc.specs.Scan.{refusal_of, refusal_at, IfRefused}
+use Rattle.c_preproc.specs.Scan.{refusal_at}
+use Rattle.c_text.specs.Details.{refusal_of, IfRefused}
 
 -- a refusal that was made for an answer
 pub refused_as : (e : Fail) (answer : Option Refusal) (r : Refusal) → IfRefused e (λ x. x ≡ r) → answer ≡ Some r → IfRefused e (λ x. answer ≡ Some x)

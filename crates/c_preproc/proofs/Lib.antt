@@ -1,4 +1,3 @@
-mod Numbers
 mod Counting
 mod Weighing
 mod Judging

@@ -1,6 +1,3 @@
-pub mod IntegerConstant
-pub mod CharacterConstant
-pub mod Constant
 pub mod ExcludedWord
 pub mod Role
 pub mod Nesting

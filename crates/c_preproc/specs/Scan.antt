@@ -1,11 +1,10 @@
 -- What the tokens of a text have to meet before they are parsed, and which token is refused.
-use Rattle.std.specs.Prelude.{◌≡◌, ℕ, List, [], ◌∷◌, ◌++◌, reverse, take, not, if◌then◌else◌, Option, Some, None}
+use Rattle.std.specs.Prelude.{◌≡◌, ℕ, List, [], ◌∷◌, ◌++◌, reverse, not, if◌then◌else◌, Option, Some, None}
 use Rattle.c_text.specs.declared.tokens.Dialect.{Dialect}
 use Rattle.c_text.specs.declared.tokens.Token.{Token}
 use Rattle.c_text.specs.declared.refusals.Refusal.{Refusal}
-use Rattle.c_text.specs.declared.refusals.Fail.{Fail}
-use Rattle.c_text.specs.declared.refusals.Fail.TheVariants.{Refused, Memory}
-use Rattle.c_preproc.specs.Constant.{is_c_token}
+use Rattle.c_text.specs.Details.{refusal_of}
+use Rattle.c_constants.specs.Constant.{is_c_token}
 use Rattle.c_preproc.specs.ExcludedWord.{is_excluded}
 use Rattle.c_preproc.specs.Role.{next_role}
 use Rattle.c_preproc.specs.Nesting.{contexts_behind, is_too_deep, limits_of}
@@ -19,10 +18,6 @@ outside_profile = 18
 
 abbrev pub too_deep : ℕ
 too_deep = 19
-
--- the refusal of a token, whose detail is its text: at most the first 255 bytes
-abbrev pub refusal_of : ℕ → Token → Refusal
-refusal_of number t = record { number = number; place = t.place; detail = take 255 t.text }
 
 -- the refusal of a token behind others (the latest first) and in front of others: it is no C token, an excluded word,
 -- or nesting or weight is above its limit once it has been counted
@@ -61,8 +56,3 @@ pub record IsRefused (dialect : Dialect) (tokens : List Token) (r : Refusal) : T
   pub cut : tokens ≡ front ++ token ∷ after
   pub refused : refusal_at dialect (reverse front) token after ≡ Some r
   pub earlier : (others rest : List Token) (t : Token) → front ≡ others ++ t ∷ rest → refusal_at dialect (reverse others) t (rest ++ token ∷ after) ≡ None
-
--- what holds of a refusal; nothing where memory ran out
-abbrev pub IfRefused : Fail → (Refusal → Type 0) → Type 0
-IfRefused (Refused r) P = P r
-IfRefused Memory P = Unit {0}

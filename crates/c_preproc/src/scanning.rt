@@ -4,13 +4,14 @@ ghost use Rattle.std.specs.Prelude.{◌≡◌, ◌^◌, ◌<◌, List, ◌∷◌
 ghost use Rattle.c_preproc.specs.Role.{role_of, next_role, is_mark, is_name};
 ghost use Rattle.c_preproc.specs.Nesting.{opens_block, ends_with_equals, ends_with_pair, contexts_behind};
 ghost use Rattle.c_preproc.specs.Counts.{Shows};
-ghost use Rattle.c_preproc.specs.Scan.{refusal_of, refusal_at, first_refusal, Passes, IsRefused, IfRefused};
+ghost use Rattle.c_preproc.specs.Scan.{refusal_at, first_refusal, Passes, IsRefused};
+ghost use Rattle.c_text.specs.Details.{refusal_of, IfRefused};
 
-use crate::constants::is_c_token;
 use crate::limits::dialect_limits;
 use crate::nesting::Nesting;
 use crate::roles::{is_mark, is_name, next_role, token_role};
 use crate::words::is_excluded;
+use c_constants::is_c_token;
 use c_text::{Dialect, Fail, Refusal, Text, Token};
 use std::alloc::Global;
 

@@ -7,3 +7,4 @@ pub mod Reading
 pub mod Answers
 pub mod PredefinedNames
 pub mod AloneQuotes
+pub mod Details

@@ -1,6 +1,6 @@
 //! Texts of constants, and their types and values, which are those of gcc 64-bit (`_Generic`).
 
-use c_preproc::constant;
+use c_constants::constant;
 use c_text::TokenKind;
 use lane_core::number::IntType;
 

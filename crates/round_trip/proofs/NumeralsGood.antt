@@ -11,13 +11,13 @@ use Rattle.lane_core.specs.declared.number.IntType.{IntType}
 use Rattle.lane_core.specs.declared.number.IntType.TheVariants.{Int}
 use Rattle.lane_core.specs.declared.number.Num.{Num}
 use Rattle.lane_core.specs.declared.number.UnOp.TheVariants.{Neg}
-use Rattle.c_preproc.specs.declared.integer.Base.{Base}
-use Rattle.c_preproc.specs.declared.integer.Base.TheVariants.{Decimal}
-use Rattle.c_preproc.specs.declared.integer.Suffix.{Suffix}
-use Rattle.c_preproc.specs.declared.integer.Suffix.TheVariants.{Plain, U, L, Ul, Ll, Ull}
-use Rattle.c_preproc.specs.Constant.{constant_of}
-use Rattle.c_preproc.specs.CharacterConstant.{signed_byte, member_value, between_marks}
-use Rattle.c_preproc.specs.IntegerConstant.{is_digit, radix_of, number_of, suffix_of, base_of, behind_prefix, types_of, fits, first_fit, integer_in}
+use Rattle.c_constants.specs.declared.integer.Base.{Base}
+use Rattle.c_constants.specs.declared.integer.Base.TheVariants.{Decimal}
+use Rattle.c_constants.specs.declared.integer.Suffix.{Suffix}
+use Rattle.c_constants.specs.declared.integer.Suffix.TheVariants.{Plain, U, L, Ul, Ll, Ull}
+use Rattle.c_constants.specs.Constant.{constant_of}
+use Rattle.c_constants.specs.CharacterConstant.{signed_byte, member_value, between_marks}
+use Rattle.c_constants.specs.IntegerConstant.{is_digit, radix_of, number_of, suffix_of, base_of, behind_prefix, types_of, fits, first_fit, integer_in}
 use Rattle.c_tree.specs.Tree.{Tree, Const, Unary}
 use Rattle.c_parse.specs.Reading.{◌>>=◌, number_where, number, node, signed_tree, constant_tree, constant_at}
 use Rattle.round_trip.specs.Good.{IsConstantType, GoodConstant, Good}

@@ -18,12 +18,12 @@ use Rattle.c_text.proofs.Scans.{both}
 use Rattle.lane_core.specs.declared.number.IntType.{IntType}
 use Rattle.lane_core.specs.declared.number.IntType.TheVariants.{Int, UInt, Long, ULong, LLong, ULLong}
 use Rattle.lane_core.specs.declared.number.Num.{Num}
-use Rattle.c_preproc.specs.declared.integer.Base.{Base}
-use Rattle.c_preproc.specs.declared.integer.Base.TheVariants.{Decimal, Hexadecimal}
-use Rattle.c_preproc.specs.declared.integer.Suffix.{Suffix}
-use Rattle.c_preproc.specs.declared.integer.Suffix.TheVariants.{Plain, U, L, Ul, Ll, Ull}
-use Rattle.c_preproc.specs.Constant.{constant_of}
-use Rattle.c_preproc.specs.IntegerConstant.{is_digit, radix_of, base_of, digit_value, number_of, suffix_of, types_of, fits, first_fit, integer_in, integer_constant}
+use Rattle.c_constants.specs.declared.integer.Base.{Base}
+use Rattle.c_constants.specs.declared.integer.Base.TheVariants.{Decimal, Hexadecimal}
+use Rattle.c_constants.specs.declared.integer.Suffix.{Suffix}
+use Rattle.c_constants.specs.declared.integer.Suffix.TheVariants.{Plain, U, L, Ul, Ll, Ull}
+use Rattle.c_constants.specs.Constant.{constant_of}
+use Rattle.c_constants.specs.IntegerConstant.{is_digit, radix_of, base_of, digit_value, number_of, suffix_of, types_of, fits, first_fit, integer_in, integer_constant}
 use Rattle.c_tree.specs.Tree.{Const}
 use Rattle.c_print.specs.Constants.{sign_text, hex_digit, hex_digits, magnitude_text}
 use Rattle.c_parse.specs.Reading.{number, node, constant_at, half_of}

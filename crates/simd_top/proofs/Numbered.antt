@@ -14,11 +14,12 @@ use Rattle.c_text.specs.Forms.{is_bad}
 use Rattle.c_text.specs.declared.refusals.Refusal.{Refusal}
 use Rattle.c_text.specs.Tokens.{Piece, bytes_in, bad_bytes, bad_byte, long_name, long_names, faults_in, faults_of, first_of, FirstFault}
 use Rattle.c_tree.specs.Tree.{External}
-use Rattle.c_preproc.specs.Constant.{is_c_token}
+use Rattle.c_constants.specs.Constant.{is_c_token}
 use Rattle.c_preproc.specs.ExcludedWord.{is_excluded}
 use Rattle.c_preproc.specs.Role.{next_role}
 use Rattle.c_preproc.specs.Nesting.{contexts_behind, is_too_deep, limits_of}
-use Rattle.c_preproc.specs.Scan.{bad_token, outside_profile, too_deep, refusal_of, refusal_at, earlier, first_refusal_behind, first_refusal}
+use Rattle.c_preproc.specs.Scan.{bad_token, outside_profile, too_deep, refusal_at, earlier, first_refusal_behind, first_refusal}
+use Rattle.c_text.specs.Details.{refusal_of}
 use Rattle.c_parse.specs.Limits.{syntax_at, end_place, too_many, Refused}
 use Rattle.simd_top.specs.Form.{is_item, item_name, first_outside, outside}
 use Rattle.simd_top.specs.Includes.{behind_includes}

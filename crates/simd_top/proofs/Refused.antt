@@ -5,7 +5,8 @@ use Rattle.c_text.specs.declared.tokens.Token.{Token}
 use Rattle.c_text.specs.declared.refusals.Fail.{Fail}
 use Rattle.c_text.specs.declared.refusals.Fail.TheVariants as fails
 use Rattle.c_text.specs.Tokens.{Tokens}
-use Rattle.c_preproc.specs.Scan.{IfRefused, refusal_of, first_refusal}
+use Rattle.c_preproc.specs.Scan.{first_refusal}
+use Rattle.c_text.specs.Details.{IfRefused, refusal_of}
 use Rattle.c_parse.specs.Limits.{Refused}
 use Rattle.c_tree.specs.Tree.{External}
 use Rattle.c_tree.specs.View.{view_unit}

@@ -5,7 +5,8 @@ use Rattle.c_text.specs.declared.tokens.Dialect.TheVariants.{X86, Neon}
 use Rattle.c_text.specs.declared.tokens.Token.{Token}
 use Rattle.c_text.specs.declared.refusals.Refusal.{Refusal}
 use Rattle.c_text.specs.Tokens.{Tokens, FirstFault}
-use Rattle.c_preproc.specs.Scan.{refusal_of, first_refusal}
+use Rattle.c_preproc.specs.Scan.{first_refusal}
+use Rattle.c_text.specs.Details.{refusal_of}
 use Rattle.c_parse.specs.Items.{IsUnit}
 use Rattle.c_parse.specs.Limits.{first_past, Refused}
 use Rattle.c_tree.specs.Tree.{External}

@@ -1,7 +1,8 @@
 //! From the bytes of a source to its unit with types, or its refusals.
 
 ghost use Rattle.std.specs.Prelude.{◌≡◌, ◌<◌, ◌≤◌, ◌^◌, length, IfOk, IfErr, Some, None, [], ◌∷◌};
-ghost use Rattle.c_preproc.specs.Scan.{IfRefused, refusal_of, first_refusal};
+ghost use Rattle.c_preproc.specs.Scan.{first_refusal};
+ghost use Rattle.c_text.specs.Details.{IfRefused, refusal_of};
 ghost use Rattle.c_tree.specs.View.{view_unit};
 ghost use Rattle.vector_types.specs.Answers.{IfRefused as IfListRefused};
 ghost use Rattle.simd_top.specs.Includes.{behind_includes, first_hash};

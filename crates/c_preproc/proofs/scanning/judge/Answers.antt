@@ -1,7 +1,7 @@
 use Rattle.std.proofs.Common.{◌≡◌, reverse, true, false, arith, rules}
-use Rattle.c_preproc.specs.Constant.{is_c_token}
+use Rattle.c_constants.specs.Constant.{is_c_token}
 use Rattle.c_preproc.specs.ExcludedWord.{is_excluded}
-use Rattle.c_preproc.specs.Scan.{refusal_of}
+use Rattle.c_text.specs.Details.{refusal_of}
 use Rattle.c_preproc.proofs.Judging.{refused_as, no_token, excluded_word, too_deep, passes, behind_shown, depth_shown}
 use Rattle.c_preproc.proofs.Weighing.{shown_within}
 use Rattle.c_preproc.proofs.scanning.judge.Goals as goal

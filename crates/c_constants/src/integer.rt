@@ -2,7 +2,7 @@
 
 ghost use Rattle.std.specs.Prelude.{◌≡◌, ◌+◌, ◌*◌, ◌^◌, ◌≤◌, length, MatchOption, option_map, find};
 ghost use Rattle.std.specs.List.{prefix_len};
-ghost use Rattle.c_preproc.specs.IntegerConstant.{base_of, behind_prefix, suffix_of, is_digit, digit_value, radix_of, number_of, types_of, fits, integer_constant};
+ghost use Rattle.c_constants.specs.IntegerConstant.{base_of, behind_prefix, suffix_of, is_digit, digit_value, radix_of, number_of, types_of, fits, integer_constant};
 
 use lane_core::number::{IntType, Num};
 

@@ -2,9 +2,9 @@
 use Rattle.std.proofs.Common.{◌≡◌, ℕ, suc, ◌+◌, ◌*◌, ◌^◌, ◌<◌, ◌≤◌, List, ◌∷◌, length, drop, sym, ◌∙◌, ap, arith, drop-cons, get_or}
 use Rattle.std.proofs.Math.Nat.{pow-succ', one-le-pow, mul-le-mul_left, add-mul, mul_assoc, add_assoc}
 use Rattle.std.proofs.lemmas.List.Sums.{prefix_len-le-length}
-use Rattle.c_preproc.specs.declared.integer.Base.{Base}
-use Rattle.c_preproc.specs.declared.integer.Base.TheVariants.{Binary, Octal, Decimal, Hexadecimal}
-use Rattle.c_preproc.specs.IntegerConstant.{radix_of, digit_value, number_of}
+use Rattle.c_constants.specs.declared.integer.Base.{Base}
+use Rattle.c_constants.specs.declared.integer.Base.TheVariants.{Binary, Octal, Decimal, Hexadecimal}
+use Rattle.c_constants.specs.IntegerConstant.{radix_of, digit_value, number_of}
 
 -- a front is no longer than the list
 pub ruleset prefixes = (prefix_len-le-length)

@@ -1,6 +1,6 @@
 use Rattle.std.proofs.Common.{◌≡◌, ◌+◌, ◌*◌, ◌^◌, length, drop}
-use Rattle.c_preproc.specs.IntegerConstant.{radix_of, number_of}
-use Rattle.c_preproc.proofs.integer.number.Given as goal
+use Rattle.c_constants.specs.IntegerConstant.{radix_of, number_of}
+use Rattle.c_constants.proofs.integer.number.Given as goal
 
 abbrev pub invariant-loop-digit : goal.invariant-loop-digit
 invariant-loop-digit l =

@@ -3,8 +3,8 @@ use Rattle.std.specs.Prelude.{ℕ, List, Option, None, ℤ, Bool, false, true, i
 use Rattle.lane_core.specs.declared.number.IntType.{IntType}
 use Rattle.c_text.specs.declared.tokens.TokenKind.{TokenKind}
 use Rattle.c_text.specs.declared.tokens.TokenKind.TheVariants.{Name, Number, Quote, Str, Mark, Lone}
-use Rattle.c_preproc.specs.IntegerConstant.{integer_constant}
-use Rattle.c_preproc.specs.CharacterConstant.{character_constant}
+use Rattle.c_constants.specs.IntegerConstant.{integer_constant}
+use Rattle.c_constants.specs.CharacterConstant.{character_constant}
 
 -- the number that a token of this kind and text is, with its type; None where it is no constant
 unfoldable pub constant_of : TokenKind → List ℕ → Option (IntType × ℤ)

@@ -2,8 +2,8 @@
 
 ghost use Rattle.std.specs.Prelude.{◌≡◌, ◌+◌, ◌*◌, ◌^◌, ◌<◌, ◌≤◌, length, MatchOption, option_map, option_copied};
 ghost use Rattle.std.specs.List.{list_all};
-ghost use Rattle.c_preproc.specs.IntegerConstant.{is_digit, number_of, radix_of};
-ghost use Rattle.c_preproc.specs.CharacterConstant.{simple_escapes, small_number, escape_value, is_plain, member_value, between_marks, signed_byte, character_constant};
+ghost use Rattle.c_constants.specs.IntegerConstant.{is_digit, number_of, radix_of};
+ghost use Rattle.c_constants.specs.CharacterConstant.{simple_escapes, small_number, escape_value, is_plain, member_value, between_marks, signed_byte, character_constant};
 ghost use Rattle.std.specs.Map.{lookup};
 ghost use Rattle.std.specs.Prelude.{nat_eq};
 

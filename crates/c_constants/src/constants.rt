@@ -1,7 +1,7 @@
 //! The constants of the C subset, by ISO C11 6.4.4.
 
 ghost use Rattle.std.specs.Prelude.{◌≡◌, option_map};
-ghost use Rattle.c_preproc.specs.Constant.{constant_of, is_c_token};
+ghost use Rattle.c_constants.specs.Constant.{constant_of, is_c_token};
 
 use crate::character::character_constant;
 use crate::integer::integer_constant;

@@ -5,9 +5,9 @@ use Rattle.std.specs.Str.{byte}
 use Rattle.std.specs.Map.{lookup}
 use Rattle.lane_core.specs.declared.number.IntType.{IntType}
 use Rattle.lane_core.specs.declared.number.IntType.TheVariants.{Int}
-use Rattle.c_preproc.specs.declared.integer.Base.{Base}
-use Rattle.c_preproc.specs.declared.integer.Base.TheVariants.{Octal, Hexadecimal}
-use Rattle.c_preproc.specs.IntegerConstant.{is_digit, radix_of, number_of}
+use Rattle.c_constants.specs.declared.integer.Base.{Base}
+use Rattle.c_constants.specs.declared.integer.Base.TheVariants.{Octal, Hexadecimal}
+use Rattle.c_constants.specs.IntegerConstant.{is_digit, radix_of, number_of}
 
 -- what a letter or a mark behind a backslash stands for: ' " ? \ a b f n r t v
 abbrev pub simple_escapes : List (ℕ × ℕ)

@@ -5,10 +5,10 @@ use Rattle.std.specs.Map.{lookup}
 use Rattle.lane_core.specs.declared.number.IntType.{IntType}
 use Rattle.lane_core.specs.declared.number.IntType.TheVariants.{Int, UInt, Long, ULong, LLong, ULLong}
 use Rattle.lane_core.specs.IntRange.{is_signed, width}
-use Rattle.c_preproc.specs.declared.integer.Base.{Base}
-use Rattle.c_preproc.specs.declared.integer.Base.TheVariants.{Binary, Octal, Decimal, Hexadecimal}
-use Rattle.c_preproc.specs.declared.integer.Suffix.{Suffix}
-use Rattle.c_preproc.specs.declared.integer.Suffix.TheVariants.{Plain, U, L, Ul, Ll, Ull}
+use Rattle.c_constants.specs.declared.integer.Base.{Base}
+use Rattle.c_constants.specs.declared.integer.Base.TheVariants.{Binary, Octal, Decimal, Hexadecimal}
+use Rattle.c_constants.specs.declared.integer.Suffix.{Suffix}
+use Rattle.c_constants.specs.declared.integer.Suffix.TheVariants.{Plain, U, L, Ul, Ll, Ull}
 
 -- the bytes from `low` to `high`
 abbrev pub is_between : ℕ → ℕ → ℕ → Bool

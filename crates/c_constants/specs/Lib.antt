@@ -1,0 +1,3 @@
+pub mod IntegerConstant
+pub mod CharacterConstant
+pub mod Constant
