@@ -103,8 +103,6 @@ pub fn signed(w: usize, x: u64) -> i128
     requires width { IsWidth w }
     requires fits { x < 256 ^ w }
     ensures value { result ≡ signed w x }
-    ensures least { negsuc (256 ^ w / 2 - 1) ≤ℤ result }
-    ensures greatest { result ≤ℤ pos (256 ^ w / 2 - 1) }
     ensures low { negsuc (2 ^ 63 - 1) ≤ℤ result }
     ensures high { result <ℤ pos (2 ^ 63) }
 {
