@@ -1,0 +1,10 @@
+pub mod Sizes
+pub mod Across
+pub mod Scalars
+pub mod Memory
+pub mod Forms
+pub mod Row
+pub mod AcrossLaws
+pub mod ScalarLaws
+pub mod MemoryLaws
+pub mod Laws
