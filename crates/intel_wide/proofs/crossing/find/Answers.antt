@@ -1,0 +1,9 @@
+use Rattle.std.proofs.Common.{refl}
+use Rattle.row_names.specs.Groups.{first_named}
+use Rattle.intel_wide.specs.Named.{name_of}
+use Rattle.intel_wide.specs.CrossingRows.{crossing_rows}
+use Rattle.intel_wide.proofs.crossing.find.Goals as goal
+
+pub returns : goal.returns
+unfolding first_named crossing_rows
+returns c = c.row_named.ensures name_of refl

@@ -1,0 +1,12 @@
+pub mod Avx2Rows
+pub mod ArithmeticRows
+pub mod MoreArithmeticRows
+pub mod LogicRows
+pub mod ShiftsRows
+pub mod MovesRows
+pub mod CrossingRows
+pub mod ScalarsRows
+pub mod LoadsRows
+pub mod HalfRows
+pub mod Named
+pub mod Rows

@@ -1,0 +1,104 @@
+//! The rows on 32 bytes that compute with numbers as SSE2's do.
+
+ghost use Rattle.std.specs.Prelude.{◌≡◌};
+ghost use Rattle.row_names.specs.Groups.{first_named};
+ghost use Rattle.intel_wide.specs.Named.{name_of};
+ghost use Rattle.intel_wide.specs.ArithmeticRows.{arithmetic_row, arithmetic_rows};
+
+use crate::WideOp;
+use intel_forms::Form;
+use intel_forms::Size::Ymm;
+use intel_lanes::blocks::Two;
+use intel_lanes::lanes::Lane2;
+use intel_lanes::lanes::Width::{Byte, Dword, Qword, Word};
+use row_names::{form_of_row, name_of_row, names_and_rows, row_named};
+
+/// The rows of the group, named after the intrinsics.
+#[derive(Clone, Copy, Debug, PartialEq, Eq)]
+pub enum Arithmetic {
+    AddEpi16,
+    AddEpi32,
+    AddEpi64,
+    AddEpi8,
+    AddsEpi16,
+    AddsEpi8,
+    AddsEpu16,
+    AddsEpu8,
+    AvgEpu16,
+    AvgEpu8,
+    MaddEpi16,
+    MaxEpi16,
+    MaxEpu8,
+    MinEpi16,
+    MinEpu8,
+    MulEpu32,
+    MulhiEpi16,
+    MulhiEpu16,
+    MulloEpi16,
+    SadEpu8,
+    SubEpi16,
+    SubEpi32,
+    SubEpi64,
+    SubEpi8,
+    SubsEpi16,
+    SubsEpi8,
+    SubsEpu16,
+    SubsEpu8,
+}
+
+/// The group, in ascending order of names. A line has the row's name, the row and its form.
+macro_rules! group {
+    ($rule:ident $($argument:ident)*) => {
+        $rule! {
+            Arithmetic $($argument)*;
+            "_mm256_add_epi16", AddEpi16, Form::Two(Ymm, Two::Lanes(Lane2::Add, Word));
+            "_mm256_add_epi32", AddEpi32, Form::Two(Ymm, Two::Lanes(Lane2::Add, Dword));
+            "_mm256_add_epi64", AddEpi64, Form::Two(Ymm, Two::Lanes(Lane2::Add, Qword));
+            "_mm256_add_epi8", AddEpi8, Form::Two(Ymm, Two::Lanes(Lane2::Add, Byte));
+            "_mm256_adds_epi16", AddsEpi16, Form::Two(Ymm, Two::Lanes(Lane2::AddSaturate, Word));
+            "_mm256_adds_epi8", AddsEpi8, Form::Two(Ymm, Two::Lanes(Lane2::AddSaturate, Byte));
+            "_mm256_adds_epu16", AddsEpu16, Form::Two(Ymm, Two::Lanes(Lane2::AddSaturateUnsigned, Word));
+            "_mm256_adds_epu8", AddsEpu8, Form::Two(Ymm, Two::Lanes(Lane2::AddSaturateUnsigned, Byte));
+            "_mm256_avg_epu16", AvgEpu16, Form::Two(Ymm, Two::Lanes(Lane2::Average, Word));
+            "_mm256_avg_epu8", AvgEpu8, Form::Two(Ymm, Two::Lanes(Lane2::Average, Byte));
+            "_mm256_madd_epi16", MaddEpi16, Form::Two(Ymm, Two::MultiplyAdd);
+            "_mm256_max_epi16", MaxEpi16, Form::Two(Ymm, Two::Lanes(Lane2::Max, Word));
+            "_mm256_max_epu8", MaxEpu8, Form::Two(Ymm, Two::Lanes(Lane2::MaxUnsigned, Byte));
+            "_mm256_min_epi16", MinEpi16, Form::Two(Ymm, Two::Lanes(Lane2::Min, Word));
+            "_mm256_min_epu8", MinEpu8, Form::Two(Ymm, Two::Lanes(Lane2::MinUnsigned, Byte));
+            "_mm256_mul_epu32", MulEpu32, Form::Two(Ymm, Two::MultiplyEvenUnsigned);
+            "_mm256_mulhi_epi16", MulhiEpi16, Form::Two(Ymm, Two::Lanes(Lane2::MultiplyHigh, Word));
+            "_mm256_mulhi_epu16", MulhiEpu16, Form::Two(Ymm, Two::Lanes(Lane2::MultiplyHighUnsigned, Word));
+            "_mm256_mullo_epi16", MulloEpi16, Form::Two(Ymm, Two::Lanes(Lane2::MultiplyLow, Word));
+            "_mm256_sad_epu8", SadEpu8, Form::Two(Ymm, Two::SumDifferences);
+            "_mm256_sub_epi16", SubEpi16, Form::Two(Ymm, Two::Lanes(Lane2::Sub, Word));
+            "_mm256_sub_epi32", SubEpi32, Form::Two(Ymm, Two::Lanes(Lane2::Sub, Dword));
+            "_mm256_sub_epi64", SubEpi64, Form::Two(Ymm, Two::Lanes(Lane2::Sub, Qword));
+            "_mm256_sub_epi8", SubEpi8, Form::Two(Ymm, Two::Lanes(Lane2::Sub, Byte));
+            "_mm256_subs_epi16", SubsEpi16, Form::Two(Ymm, Two::Lanes(Lane2::SubSaturate, Word));
+            "_mm256_subs_epi8", SubsEpi8, Form::Two(Ymm, Two::Lanes(Lane2::SubSaturate, Byte));
+            "_mm256_subs_epu16", SubsEpu16, Form::Two(Ymm, Two::Lanes(Lane2::SubSaturateUnsigned, Word));
+            "_mm256_subs_epu8", SubsEpu8, Form::Two(Ymm, Two::Lanes(Lane2::SubSaturateUnsigned, Byte));
+        }
+    };
+}
+
+static ROWS: &[(&str, WideOp)] = group!(names_and_rows WideOp);
+
+pub fn find(name: &[u8]) -> Option<WideOp>
+    ensures { result ≡ first_named name_of arithmetic_rows name.now }
+{
+    row_named(ROWS, name)
+}
+
+pub fn name(op: Arithmetic) -> &'static str
+    ensures { result.now ≡ (arithmetic_row op).name }
+{
+    group!(name_of_row op)
+}
+
+pub fn form(op: Arithmetic) -> Form
+    ensures { result ≡ (arithmetic_row op).form }
+{
+    group!(form_of_row op)
+}
