@@ -51,6 +51,8 @@ mod reports;
 #[cfg(test)]
 mod row_search;
 #[cfg(test)]
+mod rows;
+#[cfg(test)]
 mod scans;
 #[cfg(test)]
 mod showing;

@@ -11,12 +11,12 @@ const ADD: &[u8] =
 const ADDED: &[u8] =
     b"#include <arm_neon.h>\n#include <stddef.h>\n#include <stdint.h>\n\nuint8x16_t f(uint8x16_t a, uint8x16_t b) {\n    return vaddq_u8(a, b);\n}\n";
 
-// How a call ended, and what each sink holds.
+/// How a call ended, and what each sink holds.
 #[derive(Drop)]
-struct Ended {
-    status: Status,
-    out: Vec<u8>,
-    report: Vec<u8>,
+pub struct Ended {
+    pub status: Status,
+    pub out: Vec<u8>,
+    pub report: Vec<u8>,
 }
 
 fn words_of(alloc: Global, words: &[&str]) -> Result<Vec<String>, AllocError> {
@@ -27,8 +27,8 @@ fn words_of(alloc: Global, words: &[&str]) -> Result<Vec<String>, AllocError> {
     Ok(all)
 }
 
-// A call over a source whose listed reads fail, and an output that takes ten bytes a call and whose listed writes fail.
-fn run(
+/// A call over a source whose listed reads fail, and an output that takes ten bytes a call and whose listed writes fail.
+pub fn run(
     alloc: Global,
     words: &[&str],
     source: &[u8],
