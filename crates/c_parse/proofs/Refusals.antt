@@ -20,12 +20,6 @@ end_place_last [] t = refl
 end_place_last (u ∷ []) t = refl
 end_place_last (u ∷ v ∷ ts) t = end_place_last (v ∷ ts) t
 
-pub full_front : (n : ℕ) (xs : List ℕ) → n < length xs → n ≡ length (take n xs)
-full_front n xs h = grind (arith, common_steps)
-
-pub whole_front : (n : ℕ) (xs : List ℕ) → length xs ≤ n → xs ≡ take n xs
-whole_front n xs h = grind (arith, common_steps)
-
 pub rest_is : (ts : List Token) (n : ℕ) → take (length ts - n) (drop n ts) ≡ drop n ts
 rest_is ts n = take_rest ts n
 

@@ -12,7 +12,7 @@ ghost use Rattle.c_parse.specs.Limits.{end_place, first_past, syntax_at, too_man
 use crate::items::items;
 use crate::limits::first_past;
 use crate::nodes::Stuck;
-use c_text::{Dialect, Fail, Place, Refusal, Text, Token};
+use c_text::{Dialect, Fail, Place, Token, refuse};
 use c_tree::Unit;
 use std::alloc::Global;
 
@@ -21,29 +21,6 @@ const SYNTAX: u8 = 9;
 
 /// A counted quantity above its limit.
 const TOO_MANY: u8 = 20;
-
-fn shortened(bytes: &[u8]) -> &[u8]
-    ensures { result.now ≡ take 255 bytes.now }
-{
-    if bytes.len() > 255 {
-        &bytes[..255]
-    } else {
-        bytes
-    }
-}
-
-fn refuse(alloc: Global, number: u8, place: Place, text: &[u8]) -> Fail
-    ensures { IfRefused result (λ r. r ≡ record { number = number; place = place; detail = take 255 text.now }) }
-{
-    match Text::new(alloc, shortened(text)) {
-        Ok(detail) => Fail::Refused(Refusal {
-            number,
-            place,
-            detail,
-        }),
-        Err(_) => Fail::Memory,
-    }
-}
 
 #[tactic(auto, using(crate::proofs::Refusals::end_place_last))]
 fn end_place(tokens: &[Token]) -> Place

@@ -48,13 +48,6 @@ pub behind_one : (t : Token) (before : List Token) (next : Role) → contexts_be
 unfolding contexts_behind
 behind_one t before next = refl
 
--- a front of so many bytes
-pub full_front : (n : ℕ) (xs : List ℕ) → n < length xs → n ≡ length (take n xs)
-full_front n xs h = grind (arith, common_steps)
-
-pub whole_front : (n : ℕ) (xs : List ℕ) → length xs ≤ n → xs ≡ take n xs
-whole_front n xs h = grind (arith, common_steps)
-
 -- the contexts behind one more token, where they were counted by its role
 pub behind_shown : (current : Counts) (outer : List Counts) (t : Token) (before after : List Token) (role next : Role) (block : Bool) →
     role ≡ role_of t → block ≡ opens_block before → next ≡ next_role after →

@@ -12,7 +12,7 @@ use crate::nesting::Nesting;
 use crate::roles::{is_mark, is_name, next_role, token_role};
 use crate::words::is_excluded;
 use c_constants::is_c_token;
-use c_text::{Dialect, Fail, Refusal, Text, Token};
+use c_text::{Dialect, Fail, Token, refuse_token};
 use std::alloc::Global;
 
 // The numbers of the refusals.
@@ -21,30 +21,6 @@ const BAD_TOKEN: u8 = 4;
 const OUTSIDE_PROFILE: u8 = 18;
 
 const TOO_DEEP: u8 = 19;
-
-// At most the first 255 bytes.
-fn shortened(bytes: &[u8]) -> &[u8]
-    ensures { result.now ≡ take 255 bytes.now }
-{
-    if bytes.len() > 255 {
-        &bytes[..255]
-    } else {
-        bytes
-    }
-}
-
-fn refuse(alloc: Global, number: u8, token: &Token) -> Fail
-    ensures { IfRefused result (λ r. r ≡ refusal_of number token.now) }
-{
-    match Text::new(alloc, shortened(token.text.bytes())) {
-        Ok(detail) => Fail::Refused(Refusal {
-            number,
-            place: token.place,
-            detail,
-        }),
-        Err(_) => Fail::Memory,
-    }
-}
 
 fn ends_with_equals(before: &[Token]) -> bool
     ensures { result ≡ ends_with_equals (reverse before.now) }
@@ -100,14 +76,14 @@ fn judge(
     ensures light { OnOk result (nesting.new.weight < 2 ^ 32) }
 {
     if !is_c_token(token) {
-        return Err(refuse(alloc, BAD_TOKEN, token));
+        return Err(refuse_token(alloc, BAD_TOKEN, token));
     }
     if is_excluded(dialect, token) {
-        return Err(refuse(alloc, OUTSIDE_PROFILE, token));
+        return Err(refuse_token(alloc, OUTSIDE_PROFILE, token));
     }
     nesting.count(token_role(token), opens_block(before), next_role(after))?;
     if nesting.is_too_deep(dialect_limits(dialect)) {
-        return Err(refuse(alloc, TOO_DEEP, token));
+        return Err(refuse_token(alloc, TOO_DEEP, token));
     }
     Ok(())
 }

@@ -10,7 +10,7 @@ ghost use Rattle.c_text.specs.Reading.{piece_of, pieces};
 ghost use Rattle.c_text.specs.Answers.{refusal_of, Refuses, IsFirst, Gives, IfRefused};
 
 use crate::pieces::{Alone, Sort, alone_behind, is_alone, is_bad, piece_at};
-use crate::refusals::{Fail, Refusal};
+use crate::refusals::{Fail, Refusal, shortened};
 use crate::source::{Placed, bytes_of, shown};
 use crate::tokens::{Place, Text, Token, TokenKind};
 use std::alloc::{AllocError, Global};
@@ -63,16 +63,6 @@ fn refusal(alloc: Global, number: u8, place: Place, detail: &[u8]) -> Fail
     }
 }
 
-fn first_255(bytes: &[u8]) -> &[u8]
-    ensures { result.now ≡ take 255 bytes.now }
-{
-    if bytes.len() > 255 {
-        &bytes[..255]
-    } else {
-        bytes
-    }
-}
-
 // The refusal of a fault in a piece of these bytes.
 fn refuse(alloc: Global, fault: Fault, bytes: &[u8]) -> Fail
     ensures { Refuses result (refusal_of fault bytes.now) }
@@ -83,7 +73,7 @@ fn refuse(alloc: Global, fault: Fault, bytes: &[u8]) -> Fail
             refusal(alloc, 2, c.place, &detail)
         }
         Fault::OpenComment(c) => refusal(alloc, 3, c.place, b"/*"),
-        Fault::LongName(c) => refusal(alloc, 20, c.place, first_255(bytes)),
+        Fault::LongName(c) => refusal(alloc, 20, c.place, shortened(bytes)),
     }
 }
 

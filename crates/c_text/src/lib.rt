@@ -10,5 +10,5 @@ mod tokens;
 
 pub use lexer::{lex, one_token_list, tokens_or_fault};
 pub use predefined::{PredefinedName, predefined_names};
-pub use refusals::{Fail, Refusal, refusal_name};
+pub use refusals::{Fail, Refusal, refusal_name, refuse, refuse_token, shortened};
 pub use tokens::{Dialect, Place, Text, Token, TokenKind};

@@ -1,0 +1,10 @@
+pub mod Cutting
+pub mod Groups
+pub mod Parts
+pub mod Lookups
+pub mod Bodies
+pub mod Fuel
+pub mod Sizes
+pub mod Resuming
+pub mod Coding
+pub mod Free

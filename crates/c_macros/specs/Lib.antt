@@ -1,0 +1,10 @@
+pub mod Definition
+pub mod Arguments
+pub mod Expansion
+pub mod Stack
+pub mod Entries
+pub mod Free
+pub mod Groups
+pub mod Seen
+pub mod Rows
+pub mod Gives
