@@ -45,7 +45,7 @@ abbrev named : List ℕ → Tree
 named x = of_int (Name x)
 
 abbrev object : List ℕ → CType → Option Tree → Object
-object x t e = record { place = nowhere; name = x; ty = t; length = None; constant = false; align = None; init = e; list = None }
+object x t e = record { place = nowhere; name = x; ty = t; length = None; constant = false; align = None; align_first = false; init = e; list = None }
 
 abbrev function : List Object → Statements → List External
 function params body =
@@ -191,6 +191,7 @@ bytes_table = record {
   length = None;
   constant = true;
   align = None;
+  align_first = false;
   init = None;
   list = Some (More (number (pos 1)) (More (number (pos 2)) NoTrees));
 }

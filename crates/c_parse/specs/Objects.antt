@@ -170,14 +170,14 @@ has_length _ list = true
 abbrev pub object : Specification → Declarator → Initial → Option Object
 object s x begun =
     if has_length x.extent begun.list then
-    (object_type s.words x.star x.extent >>= λ t. Some (record { place = x.place; name = x.name; ty = t.0; length = length_of x.extent; constant = t.1; align = x.align; init = begun.init; list = begun.list }))
+    (object_type s.words x.star x.extent >>= λ t. Some (record { place = x.place; name = x.name; ty = t.0; length = length_of x.extent; constant = t.1; align = x.align; align_first = is_some s.align; init = begun.init; list = begun.list }))
     else None
 
--- a parameter, which has no alignment (C11 6.7.5p2)
+-- A parameter, which has no alignment (C11 6.7.5p2). The length of an array is kept, as it is judged (6.7.6.3p7).
 abbrev pub parameter : Specifiers → Declarator → Option Object
 parameter w x =
     if is_some x.align then None
-    else (parameter_type w x.star x.extent >>= λ t. Some (record { place = x.place; name = x.name; ty = t.0; length = None; constant = t.1; align = None; init = None; list = None }))
+    else (parameter_type w x.star x.extent >>= λ t. Some (record { place = x.place; name = x.name; ty = t.0; length = length_of x.extent; constant = t.1; align = None; align_first = false; init = None; list = None }))
 
 -- an object at file scope that is const has an initialiser
 abbrev pub has_value : Object → Bool

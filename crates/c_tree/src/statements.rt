@@ -23,6 +23,8 @@ pub struct Declared {
     pub constant: bool,
     /// The alignment in bytes, where one is written.
     pub align: Option<Expr>,
+    /// Whether the alignment stands among the specifiers, before the name, and so doesn't see it (C11 6.2.1p7).
+    pub align_first: bool,
     /// What a scalar or a vector begins with, where this is written.
     pub init: Option<Expr>,
     /// What an array's first elements begin with, where this is written.
@@ -73,6 +75,7 @@ impl Declared {
             length,
             constant: self.constant,
             align,
+            align_first: self.align_first,
             init,
             list,
         })

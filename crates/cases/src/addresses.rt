@@ -53,6 +53,7 @@ fn object(alloc: Global, x: &str, init: Option<Expr>) -> Result<Declared, AllocE
         length: None,
         constant: false,
         align: None,
+        align_first: false,
         init,
         list: None,
     })

@@ -86,7 +86,7 @@ void f() -> f: <Void>()
 void f(void) -> f: <Void>()
 static inline int f(int a, const char *p) -> static inline f: <Int(Int)>(a: <Int(Int)>, p: <Pointer(Int(Char), true)>)
 inline __inline const long *const f(int const a) -> inline f: <Pointer(Int(Long), true)>(a: <Int(Int)> const)
-void f(const int a[], long b[n], char *const restrict c) -> f: <Void>(a: <Pointer(Int(Int), true)>, b: <Pointer(Int(Long), false)>, c: <Pointer(Int(Char), false)> const)
+void f(const int a[], long b[n], char *const restrict c) -> f: <Void>(a: <Pointer(Int(Int), true)>, b: <Pointer(Int(Long), false)> length n, c: <Pointer(Int(Char), false)> const)
 __attribute__((target(\"sse2\"))) void f(void *p __attribute__((unused))) __attribute__((noinline)) -> f: <Void>(p: <Pointer(Void, false)>)
 f() -> none
 void f -> none

@@ -344,6 +344,7 @@ fn declared(alloc: Global, ty: CType, with_list: bool) -> Result<Declared, Alloc
         length: None,
         constant: false,
         align: Some(constant(alloc, 16)?),
+        align_first: true,
         init: None,
         list,
     })

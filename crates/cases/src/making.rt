@@ -160,6 +160,7 @@ impl Maker {
                 length: None,
                 constant: false,
                 align: None,
+                align_first: false,
                 init: None,
                 list: None,
             };

@@ -9,12 +9,18 @@ use std::alloc::Global;
 use std::test::Fail as Wrong;
 
 // A name, a type, a length, an alignment, a value and a list, `-` where there is none, and the object's type afterwards or a refusal:
-// number, column, detail. The name is at column 10, the length at 20, the alignment at 5, the value at 30, the list at 40 on.
+// number, column, detail. The name is at column 10, the length at 20, the value at 30, the list at 40 on. The alignment is at column 10 too, as where
+// a macro gives both, and stands among the specifiers, or with `~` before it behind the name.
 const ROWS: &str = "\
 x int - - - - -> Int(Int)
 x int - 8 5 - -> Int(Int)
-x int - 3 5 - -> 11 5 3
-x int - 128 5 - -> 11 5 128
+x int - 3 5 - -> 11 10 3
+x int - 128 5 - -> 11 10 128
+x int - ~8 5 - -> Int(Int)
+x int - ~3 5 - -> 11 10 3
+x int - x - - -> 10 10 x
+x int - ~x - - -> 11 10 x
+_x int - ~_z - - -> 10 10 _z
 y int - - - - -> 11 10 y
 mg_x int - - - - -> 12 10 mg_x
 _mm_x int - - - - -> 12 10 _mm_x
@@ -100,7 +106,11 @@ fn declared(alloc: Global, row: &str) -> Result<Declared, Wrong> {
     let name = Text::new(alloc, words.next().ok_or("name")?.as_bytes())?;
     let ty = type_named(words.next().ok_or("type")?).ok_or("type")?;
     let length = part(alloc, words.next().ok_or("length")?, 20)?;
-    let align = part(alloc, words.next().ok_or("alignment")?, 5)?;
+    let alignment = words.next().ok_or("alignment")?;
+    let (align, align_first) = match alignment.strip_prefix("~") {
+        Some(word) => (part(alloc, word, 10)?, false),
+        None => (part(alloc, alignment, 10)?, true),
+    };
     let init = part(alloc, words.next().ok_or("value")?, 30)?;
     let list = list(alloc, words.next().ok_or("list")?)?;
     Ok(Declared {
@@ -110,6 +120,7 @@ fn declared(alloc: Global, row: &str) -> Result<Declared, Wrong> {
         length,
         constant: false,
         align,
+        align_first,
         init,
         list,
     })

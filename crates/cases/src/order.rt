@@ -139,6 +139,7 @@ fn function(alloc: Global, words: &str) -> Result<Function, Wrong> {
         length: None,
         constant: false,
         align: None,
+        align_first: false,
         init: None,
         list: None,
     })?;

@@ -131,6 +131,7 @@ fn declared(alloc: Global, name: &[u8], ty: CType) -> Result<Declared, AllocErro
         length: None,
         constant: true,
         align: None,
+        align_first: false,
         init: None,
         list: None,
     })

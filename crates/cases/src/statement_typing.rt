@@ -58,6 +58,7 @@ fn object(alloc: Global, text: &str, col: u32) -> Result<Declared, Wrong> {
         length: None,
         constant: false,
         align: None,
+        align_first: false,
         init: None,
         list: None,
     })

@@ -76,6 +76,7 @@ fn table(alloc: Global, s: Sample) -> Result<Declared, AllocError> {
         length: Some(number(alloc, s, s.length)?),
         constant: true,
         align: None,
+        align_first: false,
         init: None,
         list: Some(list),
     })

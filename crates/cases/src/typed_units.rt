@@ -39,7 +39,15 @@ int f(void) { int x = x; return x; } -> f: Int(Int)() = Int(Int)
 int f(int x) { { int x = 1; } return x; } -> f: Int(Int)(Int(Int)) = Int(Int)
 const int x = 1; int f(int x) { return x; } -> x: Int(Int), f: Int(Int)(Int(Int)) = Int(Int)
 int f(int x) { int x; return x; } -> 1:20 11 x
-int f(int x, int x) { return x; } -> 1:18 11 x";
+int f(int x, int x) { return x; } -> 1:18 11 x
+int f(int p[zz]) { return 0; } -> 1:13 10 zz
+int f(int n, int p[n]) { return 0; } -> 1:20 11 n
+int f(int p[0]) { return 0; } -> 1:13 11 0
+int f(int p[p]) { return 0; } -> 1:13 10 p
+int f(const char p[2 + 1]) { return p[2]; } -> f: Int(Int)(Pointer(Int(Char), true)) = Int(Int) <- Int(Char)
+int f(int p[100000]) { return p[2]; } -> f: Int(Int)(Pointer(Int(Int), false)) = Int(Int)
+void f(void) { int x __attribute__((aligned(sizeof(x)))); } -> 1:52 11 x
+void f(void) { _Alignas(sizeof(x)) int x; } -> 1:25 10 x";
 
 // The same of excluded forms, reserved names and tables.
 const NAMES: &str = "\

@@ -12,10 +12,10 @@ use Rattle.type_rules.specs.Rules.{Assigned}
 use Rattle.scopes.specs.Scopes.{Env}
 use Rattle.expression_types.specs.Check.{◌>>=◌, Checked, check}
 use Rattle.expression_types.specs.Typed.{Typed}
-use Rattle.object_types.specs.Objects.{Length, new_name, alignment, small, is_room, member, members, count_all, is_open, is_no_trees, length_of, stands_before, aligned, small_once, counted, start, number_of, declared_type, behind_declarator, behind_name, check_object}
+use Rattle.object_types.specs.Objects.{Length, new_name, alignment, small, is_room, member, members, count_all, is_open, is_no_trees, length_of, aligned, small_once, counted, start, number_of, declared_type, behind_declarator, behind_name, check_object}
 use Rattle.object_types.specs.Typed as t
 use Rattle.object_types.specs.Typed.{IsOpen, IsSmall, MayDeclare, TypedLength, DeclaredType, PowerOfTwo, TypedAlignment, TypedMember, TypedMembers, Begins, TypedObject}
-use Rattle.object_types.proofs.ObjectTests.{object-holds, void-pointer-holds, count-holds, small-holds, open-holds, closed-holds, alignment-holds, before-holds, not-before, declared-holds}
+use Rattle.object_types.proofs.ObjectTests.{object-holds, void-pointer-holds, count-holds, small-holds, open-holds, closed-holds, alignment-holds, declared-holds}
 
 -- one answer after another
 go_on : {A B : Type 0} (r : Checked A) (f : A → Checked B) (x : A) (y : B) → r ≡ Ok x → f x ≡ Ok y → (r >>= f) ≡ Ok y
@@ -34,9 +34,9 @@ is_room-holds None i h = refl
 abbrev behind : Object → Option Tree → Env → Length → CType → Checked Object
 behind d a env l u =
     small_once (not (is_open u)) d.name d.place u >>= λ _.
-    aligned (not (stands_before d.align d.place)) a (behind_declarator d.name d.constant u env) >>= λ b.
+    aligned (not d.align_first) a (behind_declarator d.name d.constant u env) >>= λ b.
     start d.name d.place u d.init d.list (behind_declarator d.name d.constant u env) >>= λ s.
-    Ok (record { place = d.place; name = d.name; ty = s.ty; length = l.expression; constant = d.constant; align = b; init = s.init; list = s.list })
+    Ok (record { place = d.place; name = d.name; ty = s.ty; length = l.expression; constant = d.constant; align = b; align_first = d.align_first; init = s.init; list = s.list })
 
 name-holds : (x : List ℕ) (p : Place) (u : CType) (env : Env) → MayDeclare env x u → new_name x p u env ≡ Ok true
 name-holds x p u env m = rw (m.unreserved, m.undeclared, object-holds u m.object, void-pointer-holds u m.admitted) refl
@@ -53,10 +53,10 @@ once-holds x p u (inr h) = by (is_open u)
     by false = small-passes x p u h
 
 -- an alignment passes where it stands, before the name or behind it
-record Aligned (p : Place) (m : Option Tree) (env inner : Env) (b : Option Tree) : Type 0 where
+record Aligned (first : Bool) (m : Option Tree) (env inner : Env) (b : Option Tree) : Type 0 where
   between : Option Tree
-  before : aligned (stands_before m p) m env ≡ Ok between
-  behind : aligned (not (stands_before m p)) between inner ≡ Ok b
+  before : aligned first m env ≡ Ok between
+  behind : aligned (not first) between inner ≡ Ok b
 
 -- an integer alone is given to an integer
 integer-alone : (z : Bool) (u : CType) (s : IntType) → is_assignable z u (Int s) ≡ true → is_integer u ≡ true
@@ -92,14 +92,10 @@ module _ (types : (env : Env) (u v : Tree) → (check u env ≡ Ok v) ↔ Typed 
   power-holds : (a : Tree) (env : Env) (v : Tree) → PowerOfTwo env a v → alignment a env ≡ Ok v
   power-holds a env v (t.power_of_two b c n x e w) = rw ((types env b c).1 x, e, alignment-holds n.value w) refl
 
-  aligned-holds : (p : Place) (m : Option Tree) (env inner : Env) (b : Option Tree) → TypedAlignment p env inner m b → Aligned p m env inner b
-  aligned-holds p m env inner b t.unwritten = record { between = None; before = refl; behind = refl }
-  aligned-holds p m env inner b (t.among_specifiers a v e w) =
-      let first = before-holds (node_place a) p e in
-      record { between = Some v; before = rw (first, power-holds a env v w) refl; behind = rw first refl }
-  aligned-holds p m env inner b (t.behind_name a v e w) =
-      let later = not-before (node_place a) p e in
-      record { between = Some a; before = rw later refl; behind = rw (later, power-holds a inner v w) refl }
+  aligned-holds : (first : Bool) (m : Option Tree) (env inner : Env) (b : Option Tree) → TypedAlignment env inner first m b → Aligned first m env inner b
+  aligned-holds first m env inner b (t.unwritten z) = record { between = None; before = refl; behind = refl }
+  aligned-holds first m env inner b (t.among_specifiers a v w) = record { between = Some v; before = rw (power-holds a env v w) refl; behind = refl }
+  aligned-holds first m env inner b (t.behind_name a v w) = record { between = Some a; before = refl; behind = rw (power-holds a inner v w) refl }
 
   -- members
   given-integer : (s : IntType) (a b : Tree) → Assigned a (Int s) b → (is_integer (node_type a) ≡ true) × (converted (Int s) a ≡ b)
@@ -143,19 +139,19 @@ module _ (types : (env : Env) (u v : Tree) → (check u env ≡ Ok v) ↔ Typed 
 
   -- what stands behind the name, where the declarator gives the type u
   behind-holds : (env : Env) (e : Object) (l : Length) (a align init : Option Tree) (list : Option Trees) (u w : CType) → declared_type l.number e.ty env ≡ u → IsOpen u ⊎ IsSmall u →
-      aligned (not (stands_before e.align e.place)) a (behind_declarator e.name e.constant u env) ≡ Ok align → Begins (behind_declarator e.name e.constant u env) u e.init e.list init list w →
-      behind_name e a env l ≡ Ok (record { place = e.place; name = e.name; ty = w; length = l.expression; constant = e.constant; align = align; init = init; list = list })
+      aligned (not e.align_first) a (behind_declarator e.name e.constant u env) ≡ Ok align → Begins (behind_declarator e.name e.constant u env) u e.init e.list init list w →
+      behind_name e a env l ≡ Ok (record { place = e.place; name = e.name; ty = w; length = l.expression; constant = e.constant; align = align; align_first = e.align_first; init = init; list = list })
   behind-holds env e l a align init list u w s z g r =
       let inner = behind_declarator e.name e.constant u env in
       ap (behind e a env l) s ∙
       go_on (small_once (not (is_open u)) e.name e.place u) _ true _ (once-holds e.name e.place u z)
-      (go_on (aligned (not (stands_before e.align e.place)) a inner) _ align _ g
+      (go_on (aligned (not e.align_first) a inner) _ align _ g
       (go_on (start e.name e.place u e.init e.list inner) _ (record { init = init; list = list; ty = w }) _ (begins-hold e.name e.place u e.init e.list inner w init list r) refl))
 
   pub complete : (env : Env) (d v : Object) → TypedObject env d v → check_object d env ≡ Ok v
   complete env d v (t.declared e length n u w align init list m k s z g r) =
-      let a = aligned-holds e.place e.align env (behind_declarator e.name e.constant u env) align g in
-      go_on (aligned (stands_before e.align e.place) e.align env) _ a.between _ a.before
+      let a = aligned-holds e.align_first e.align env (behind_declarator e.name e.constant u env) align g in
+      go_on (aligned e.align_first e.align env) _ a.between _ a.before
       (go_on (new_name e.name e.place (read_type env.dialect e.ty) env) _ true _ (name-holds e.name e.place (read_type env.dialect e.ty) env m)
       (go_on (length_of e.length env) _ (record { expression = length; number = n }) _ (length-holds e.length env length n k)
       (behind-holds env e (record { expression = length; number = n }) a.between align init list u w (declared-holds (read_type env.dialect e.ty) n u s) z a.behind r)))

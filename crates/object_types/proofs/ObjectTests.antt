@@ -13,8 +13,8 @@ use Rattle.c_tree.specs.Same.{unnumbered}
 use Rattle.type_rules.specs.Types.{is_object, is_void_pointer}
 use Rattle.type_rules.specs.Rules.{IsObject}
 use Rattle.expression_types.specs.Typed.{IsArray, IsVoidPointer}
-use Rattle.object_types.specs.Objects.{is_object_type, is_low_alignment, is_high_alignment, is_alignment, is_before, is_small, is_open, with_number}
-use Rattle.object_types.specs.Typed.{IsObjectType, IsOpen, IsSmall, IsAlignmentValue, IsBefore, DeclaredType, array, open_array, no_array}
+use Rattle.object_types.specs.Objects.{is_object_type, is_low_alignment, is_high_alignment, is_alignment, is_small, is_open, with_number}
+use Rattle.object_types.specs.Typed.{IsObjectType, IsOpen, IsSmall, IsAlignmentValue, DeclaredType, array, open_array, no_array}
 
 pub either : (x y : Bool) → (x || y) ≡ true → (x ≡ true) ⊎ (y ≡ true)
 either true y h = inl refl
@@ -162,25 +162,6 @@ powers (suc (suc (suc (suc (suc (suc (suc k))))))) h = absurd (omega arith)
 
 pub alignment-holds : (z : ℤ) → IsAlignmentValue z → is_alignment z ≡ true
 alignment-holds z h = ap is_alignment h.2 ∙ powers h.0 h.1
-
--- places
-pub before-says : (p q : Place) → is_before p q ≡ true → IsBefore p q
-before-says p q h = by (either (nat_lt p.line q.line) (nat_eq p.line q.line && nat_lt p.col q.col) h)
-  where
-    by : (nat_lt p.line q.line ≡ true) ⊎ ((nat_eq p.line q.line && nat_lt p.col q.col) ≡ true) → IsBefore p q
-    by (inl h) = inl (ltb-true p.line q.line h)
-    by (inr h) = let e = both (nat_eq p.line q.line) (nat_lt p.col q.col) h in inr (eqb-true p.line q.line e.0, ltb-true p.col q.col e.1)
-
-pub before-holds : (p q : Place) → IsBefore p q → is_before p q ≡ true
-before-holds p q (inl h) = rw (lt-ltb p.line q.line h) refl
-before-holds p q (inr h) = by_right (nat_lt p.line q.line) (nat_eq p.line q.line && nat_lt p.col q.col) (rw (eq-eqb p.line q.line h.0, lt-ltb p.col q.col h.1) refl)
-
-pub not-before : (p q : Place) → (IsBefore p q → ⊥) → is_before p q ≡ false
-not-before p q h = by (is_before p q) refl
-  where
-    by : (b : Bool) → is_before p q ≡ b → b ≡ false
-    by true e = absurd (h (before-says p q e))
-    by false e = refl
 
 -- the type that a declarator gives
 pub declared-says : (t : CType) (n : Option ℕ) → DeclaredType t n (with_number n (unnumbered t))

@@ -18,10 +18,10 @@ use Rattle.expression_types.specs.Marks.{short}
 use Rattle.expression_types.specs.Check.{◌>>=◌, Checked, refuse, check}
 use Rattle.expression_types.specs.Typed.{Typed}
 use Rattle.object_types.specs.Reserved.{is_reserved}
-use Rattle.object_types.specs.Objects.{Length, Start, is_object_type, new_name, count_of, is_alignment, alignment_of, alignment, is_before, is_small, small, is_room, is_member, member, members, count_all, is_open, with_number, number_of, length_of, stands_before, aligned, closed_type, small_once, value_fits, is_no_trees, start, declared_type, behind_declarator, check_object}
+use Rattle.object_types.specs.Objects.{Length, Start, is_object_type, new_name, count_of, is_alignment, alignment_of, alignment, is_small, small, is_room, is_member, member, members, count_all, is_open, with_number, number_of, length_of, aligned, closed_type, small_once, value_fits, is_no_trees, start, declared_type, behind_declarator, check_object}
 use Rattle.object_types.specs.Typed as t
 use Rattle.object_types.specs.Typed.{IsOpen, IsSmall, MayDeclare, TypedLength, PowerOfTwo, TypedAlignment, TypedMember, TypedMembers, Begins, TypedObject}
-use Rattle.object_types.proofs.ObjectTests.{both, unnegated, absent, object-says, void-pointer-says, count-says, size-says, open-says, closed-says, alignment-says, before-says, before-holds, declared-says}
+use Rattle.object_types.proofs.ObjectTests.{both, unnegated, absent, object-says, void-pointer-says, count-says, size-says, open-says, closed-says, alignment-says, declared-says}
 
 -- an answer that comes after another
 record After {A B : Type 0} (r : Checked A) (f : A → Checked B) (y : B) : Type 0 where
@@ -129,19 +129,16 @@ module _ (types : (env : Env) (u v : Tree) → (check u env ≡ Ok v) ↔ Typed 
   kept None b env h = same None b h
   kept (Some x) b env h = same (Some x) b h
 
-  alignment-typed : (p : Place) (m : Option Tree) (env inner : Env) (a b : Option Tree) → aligned (stands_before m p) m env ≡ Ok a → aligned (not (stands_before m p)) a inner ≡ Ok b → TypedAlignment p env inner m b
-  alignment-typed p None env inner a b h k =
-      becomes (TypedAlignment p env inner None) None b (becomes (λ z. aligned true z inner ≡ Ok b) a None (sym h) k) t.unwritten
-  alignment-typed p (Some x) env inner a b h k = by (is_before (node_place x) p) refl h k
-    where
-      by : (z : Bool) → is_before (node_place x) p ≡ z → aligned z (Some x) env ≡ Ok a → aligned (not z) a inner ≡ Ok b → TypedAlignment p env inner (Some x) b
-      by true e h k =
-          let y = after (alignment x env) _ a h in
-          subst (TypedAlignment p env inner (Some x)) (same (Some y.first) a y.goes ∙ kept a b inner k) (t.among_specifiers x y.first (before-says (node_place x) p e) (power-says x env y.first y.gives))
-      by false e h k =
-          let r : aligned true (Some x) inner ≡ Ok b = becomes (λ z. aligned true z inner ≡ Ok b) a (Some x) (sym h) k in
-          let y = after (alignment x inner) _ b r in
-          becomes (TypedAlignment p env inner (Some x)) (Some y.first) b y.goes (t.behind_name x y.first (λ w. (let no = before-holds (node_place x) p w in cc)) (power-says x inner y.first y.gives))
+  alignment-typed : (first : Bool) (m : Option Tree) (env inner : Env) (a b : Option Tree) → aligned first m env ≡ Ok a → aligned (not first) a inner ≡ Ok b → TypedAlignment env inner first m b
+  alignment-typed first None env inner a b h k =
+      becomes (TypedAlignment env inner first None) None b (becomes (λ z. aligned (not first) z inner ≡ Ok b) a None (sym h) k) (t.unwritten first)
+  alignment-typed true (Some x) env inner a b h k =
+      let y = after (alignment x env) _ a h in
+      subst (TypedAlignment env inner true (Some x)) (same (Some y.first) a y.goes ∙ kept a b inner k) (t.among_specifiers x y.first (power-says x env y.first y.gives))
+  alignment-typed false (Some x) env inner a b h k =
+      let r : aligned true (Some x) inner ≡ Ok b = becomes (λ z. aligned true z inner ≡ Ok b) a (Some x) (sym h) k in
+      let y = after (alignment x inner) _ b r in
+      becomes (TypedAlignment env inner false (Some x)) (Some y.first) b y.goes (t.behind_name x y.first (power-says x inner y.first y.gives))
 
   -- members, and what there is room for
   member-says : (s : IntType) (room : Bool) (a a' b : Tree) (env : Env) → check a env ≡ Ok a' → member (Int s) room a' ≡ Ok b → (room ≡ true) × TypedMember env s a b
@@ -233,15 +230,15 @@ module _ (types : (env : Env) (u v : Tree) → (check u env ≡ Ok v) ↔ Typed 
 
   pub sound : (env : Env) (d v : Object) → check_object d env ≡ Ok v → TypedObject env d v
   sound env d v h =
-      let a = after (aligned (stands_before d.align d.place) d.align env) _ v h in
+      let a = after (aligned d.align_first d.align env) _ v h in
       let b = after (new_name d.name d.place (read_type env.dialect d.ty) env) _ v a.goes in
       let l = after (length_of d.length env) _ v b.goes in
       let u = declared_type l.first.number d.ty env in
       let inner = behind_declarator d.name d.constant u env in
       let s = after (small_once (not (is_open u)) d.name d.place u) _ v l.goes in
-      let g = after (aligned (not (stands_before d.align d.place)) a.first inner) _ v s.goes in
+      let g = after (aligned (not d.align_first) a.first inner) _ v s.goes in
       let r = after (start d.name d.place u d.init d.list inner) _ v g.goes in
-      becomes (TypedObject env d) (record { place = d.place; name = d.name; ty = r.first.ty; length = l.first.expression; constant = d.constant; align = g.first; init = r.first.init; list = r.first.list }) v r.goes
+      becomes (TypedObject env d) (record { place = d.place; name = d.name; ty = r.first.ty; length = l.first.expression; constant = d.constant; align = g.first; align_first = d.align_first; init = r.first.init; list = r.first.list }) v r.goes
       (t.declared d l.first.expression l.first.number u r.first.ty g.first r.first.init r.first.list (name-says d.name d.place (read_type env.dialect d.ty) env b.first b.gives) (length-says d.length env l.first l.gives)
-      (declared-says (read_type env.dialect d.ty) l.first.number) (once-says d.name d.place u s.first s.gives) (alignment-typed d.place d.align env inner a.first g.first a.gives g.gives)
+      (declared-says (read_type env.dialect d.ty) l.first.number) (once-says d.name d.place u s.first s.gives) (alignment-typed d.align_first d.align env inner a.first g.first a.gives g.gives)
       (begins-says d.name d.place u d.init d.list inner r.first r.gives))

@@ -74,10 +74,6 @@ alignment_of e None = unfit e
 abbrev pub alignment : Tree → Env → Checked Tree
 alignment e env = check e env >>= λ v. alignment_of v (value_of v)
 
--- one place is before another
-abbrev pub is_before : Place → Place → Bool
-is_before p q = nat_lt p.line q.line || (nat_eq p.line q.line && nat_lt p.col q.col)
-
 -- no array is larger than 65,536 bytes
 abbrev pub is_small : Option ℕ → Bool
 is_small (Some n) = nat_le n 65536
@@ -139,11 +135,7 @@ abbrev pub length_of : Option Tree → Env → Checked Length
 length_of None env = Ok (record { expression = None; number = None })
 length_of (Some e) env = check e env >>= λ v. count_of v (value_of v) >>= λ n. Ok (record { expression = Some v; number = Some n })
 
--- an alignment is judged before the declared name where it stands before it, and else behind the declarator
-abbrev pub stands_before : Option Tree → Place → Bool
-stands_before (Some e) p = is_before (node_place e) p
-stands_before None p = false
-
+-- an alignment is judged now, or else left for later: that among the specifiers before the declared name, others behind the declarator
 abbrev pub aligned : Bool → Option Tree → Env → Checked (Option Tree)
 aligned now None env = Ok None
 aligned now (Some e) env = if now then (alignment e env >>= λ v. Ok (Some v)) else Ok (Some e)
@@ -195,14 +187,14 @@ behind_declarator x constant t env = with_object x (known constant t) (opened en
 abbrev pub behind_name : Object → Option Tree → Env → Length → Checked Object
 behind_name d a env l =
     small_once (not (is_open (declared_type l.number d.ty env))) d.name d.place (declared_type l.number d.ty env) >>= λ _.
-    aligned (not (stands_before d.align d.place)) a (behind_declarator d.name d.constant (declared_type l.number d.ty env) env) >>= λ b.
+    aligned (not d.align_first) a (behind_declarator d.name d.constant (declared_type l.number d.ty env) env) >>= λ b.
     start d.name d.place (declared_type l.number d.ty env) d.init d.list (behind_declarator d.name d.constant (declared_type l.number d.ty env) env) >>= λ s.
-    Ok (record { place = d.place; name = d.name; ty = s.ty; length = l.expression; constant = d.constant; align = b; init = s.init; list = s.list })
+    Ok (record { place = d.place; name = d.name; ty = s.ty; length = l.expression; constant = d.constant; align = b; align_first = d.align_first; init = s.init; list = s.list })
 
 -- a declared object with its types
 abbrev pub check_object : Object → Env → Checked Object
 check_object d env =
-    aligned (stands_before d.align d.place) d.align env >>= λ a.
+    aligned d.align_first d.align env >>= λ a.
     new_name d.name d.place (read_type env.dialect d.ty) env >>= λ _.
     length_of d.length env >>= λ l.
     behind_name d a env l

@@ -36,10 +36,6 @@ IsSmall t = (n : ℕ) × (size_of t ≡ Some n) × (n ≤ 65536)
 abbrev pub IsAlignmentValue : ℤ → Type 0
 IsAlignmentValue z = (k : ℕ) × (k ≤ 6) × (z ≡ pos (2 ^ k))
 
--- one place is before another in the text
-abbrev pub IsBefore : Place → Place → Type 0
-IsBefore p q = (p.line < q.line) ⊎ ((p.line ≡ q.line) × (p.col < q.col))
-
 -- A name may be declared for an object of a type: no other object of the same scope has it (6.7p3), it isn't reserved, and the type is an
 -- object's and no pointer to `void`.
 pub record MayDeclare (env : Env) (x : List ℕ) (t : CType) : Type 0 where
@@ -64,11 +60,11 @@ pub data DeclaredType : CType → Option ℕ → CType → Type 0 where
 pub data PowerOfTwo (env : Env) : Tree → Tree → Type 0 where
   power_of_two : (a a' : Tree) (n : Num) → Typed env a a' → value_of a' ≡ Some n → IsAlignmentValue n.value → PowerOfTwo env a a'
 
--- It sees the declared name where it stands behind its declarator, and else what was in scope before (6.2.1p7).
-pub data TypedAlignment (name : Place) (before behind : Env) : Option Tree → Option Tree → Type 0 where
-  unwritten : TypedAlignment name before behind None None
-  among_specifiers : (a a' : Tree) → IsBefore (node_place a) name → PowerOfTwo before a a' → TypedAlignment name before behind (Some a) (Some a')
-  behind_name : (a a' : Tree) → (IsBefore (node_place a) name → ⊥) → PowerOfTwo behind a a' → TypedAlignment name before behind (Some a) (Some a')
+-- It sees the declared name where it stands behind the declarator, and among the specifiers what was in scope before (6.2.1p7).
+pub data TypedAlignment (before behind : Env) : Bool → Option Tree → Option Tree → Type 0 where
+  unwritten : (first : Bool) → TypedAlignment before behind first None None
+  among_specifiers : (a a' : Tree) → PowerOfTwo before a a' → TypedAlignment before behind true (Some a) (Some a')
+  behind_name : (a a' : Tree) → PowerOfTwo behind a a' → TypedAlignment before behind false (Some a) (Some a')
 
 -- members of an initialiser, each an integer constant expression that is given to an element of this type (6.7.9p4, p11, p17)
 pub data TypedMember (env : Env) (s : IntType) : Tree → Tree → Type 0 where
@@ -94,5 +90,5 @@ pub data Begins (env : Env) : CType → Option Tree → Option Trees → Option 
 pub data TypedObject (env : Env) : Object → Object → Type 0 where
   declared : (d : Object) (length : Option Tree) (n : Option ℕ) (t u : CType) (align init : Option Tree) (list : Option Trees) →
       MayDeclare env d.name (read_type env.dialect d.ty) → TypedLength env d.length length n → DeclaredType (read_type env.dialect d.ty) n t → IsOpen t ⊎ IsSmall t →
-      TypedAlignment d.place env (behind_declarator d.name d.constant t env) d.align align → Begins (behind_declarator d.name d.constant t env) t d.init d.list init list u →
-      TypedObject env d (record { place = d.place; name = d.name; ty = u; length = length; constant = d.constant; align = align; init = init; list = list })
+      TypedAlignment env (behind_declarator d.name d.constant t env) d.align_first d.align align → Begins (behind_declarator d.name d.constant t env) t d.init d.list init list u →
+      TypedObject env d (record { place = d.place; name = d.name; ty = u; length = length; constant = d.constant; align = align; align_first = d.align_first; init = init; list = list })

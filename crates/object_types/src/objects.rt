@@ -7,9 +7,9 @@ ghost use Rattle.type_rules.specs.Types.{assigned};
 ghost use Rattle.scopes.specs.Scopes.{env_of, with_object};
 ghost use Rattle.scopes.specs.Kept.{at_file, OnRefusal};
 ghost use Rattle.expression_types.specs.Check.{Gives};
-ghost use Rattle.object_types.specs.Objects.{is_no_trees, count_all, element_of, number_of, is_open, with_number, known, seen_length, length_of, stands_before, aligned, seen_start, closed_type, small_once, value_fits, number_for, counted, start, declared_type, behind_name, check_object};
+ghost use Rattle.object_types.specs.Objects.{is_no_trees, count_all, element_of, number_of, is_open, with_number, known, seen_length, length_of, aligned, seen_start, closed_type, small_once, value_fits, number_for, counted, start, declared_type, behind_name, check_object};
 
-use crate::parts::{alignment, count, is_array, is_before, members, new_name, small};
+use crate::parts::{alignment, count, is_array, members, new_name, small};
 use c_tree::{CType, Declared, Expr, Place, Pointee, Text};
 use expression_types::{Environment, Fail, Object, check_expression, name_fault};
 use scopes::scopes_end;
@@ -109,16 +109,6 @@ fn length_of(alloc: Global, env: &Environment, length: &Option<Expr>) -> Result<
                 number: Some(n),
             })
         }
-    }
-}
-
-/// Whether an alignment stands before the declared name, which has this place.
-pub fn stands_before(align: &Option<Expr>, place: Place) -> bool
-    ensures { result ≡ stands_before (option_map view align.now) place }
-{
-    match align {
-        Some(e) => is_before(e.place, place),
-        None => false,
     }
 }
 
@@ -295,7 +285,7 @@ fn behind_name(
     small_once(alloc, !is_open(t), &d.name, d.place, t)?;
     env.open(alloc)?;
     env.declare(alloc, d.name.bytes(), known(d.constant, t))?;
-    let align = aligned(alloc, !stands_before(&d.align, d.place), &*env, align)?;
+    let align = aligned(alloc, !d.align_first, &*env, align)?;
     let start = begins_with(alloc, &*env, d, t)?;
     env.close(alloc);
     scopes_end();
@@ -307,6 +297,7 @@ fn behind_name(
         length: length.expression,
         constant: d.constant,
         align,
+        align_first: d.align_first,
         init: start.init,
         list: start.list,
     })
@@ -319,7 +310,7 @@ pub fn check_object(alloc: Global, env: &mut Environment, d: &Declared) -> Resul
     ensures kept { OnRefusal result (at_file (env_of env.new) ≡ at_file (env_of env.old)) }
 {
     let align = copy_of(alloc, &d.align)?;
-    let align = aligned(alloc, stands_before(&d.align, d.place), &*env, align)?;
+    let align = aligned(alloc, d.align_first, &*env, align)?;
     new_name(alloc, &*env, &d.name, d.place, read_type(env.dialect, d.ty))?;
     let length = length_of(alloc, &*env, &d.length)?;
     let v = behind_name(alloc, env, d, align, length)?;

@@ -9,7 +9,7 @@ ghost use Rattle.expression_types.specs.Check.{Gives};
 ghost use Rattle.c_text.specs.declared.refusals.Fail.TheVariants.{Refused};
 ghost use Rattle.type_rules.specs.Types.{node_place};
 ghost use Rattle.expression_types.specs.Marks.{mark};
-ghost use Rattle.object_types.specs.Objects.{root, is_object_type, is_array, new_name, count_of, is_low_alignment, is_high_alignment, is_alignment, alignment_of, alignment, is_before, is_small, small, is_room, is_member, member, members};
+ghost use Rattle.object_types.specs.Objects.{root, is_object_type, is_array, new_name, count_of, is_low_alignment, is_high_alignment, is_alignment, alignment_of, alignment, is_small, small, is_room, is_member, member, members};
 
 use crate::reserved::is_reserved;
 use c_tree::{CType, Expr, ExprKind, Place, Text};
@@ -152,13 +152,6 @@ pub fn alignment(alloc: Global, env: &Environment, e: &Expr) -> Result<Expr, Fai
 {
     let e = check_expression(alloc, env, e)?;
     alignment_of(alloc, e)
-}
-
-/// Whether one place is before another.
-pub fn is_before(p: Place, q: Place) -> bool
-    ensures { result ≡ is_before p q }
-{
-    p.line < q.line || (p.line == q.line && p.col < q.col)
 }
 
 fn is_small(size: Option<u64>) -> bool

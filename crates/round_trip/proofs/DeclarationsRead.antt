@@ -382,10 +382,10 @@ pub record ObjectRead (shared : Bool) (d : Object) (ts : List Token) (bs : List 
 valued_by : (constant : Bool) (a b : Option Tree) (c d : Option Trees) → is_some a ≡ is_some b → is_some c ≡ is_some d → (not constant || is_some a || is_some c) ≡ (not constant || is_some b || is_some d)
 valued_by constant a b c d h k = rw (h, k) refl
 
-same_object : (d : Object) (p : Place) (x : List ℕ) (t : CType) (l a i : Option Tree) (v : Option Trees) → x ≡ d.name → unnumbered t ≡ unnumbered d.ty → option_map stripped l ≡ option_map stripped d.length →
+same_object : (d : Object) (p : Place) (x : List ℕ) (t : CType) (l a i : Option Tree) (f : Bool) (v : Option Trees) → x ≡ d.name → unnumbered t ≡ unnumbered d.ty → option_map stripped l ≡ option_map stripped d.length →
     option_map stripped a ≡ option_map stripped d.align → option_map stripped i ≡ option_map stripped d.init → option_map stripped_all v ≡ option_map stripped_all d.list →
-    stripped_object (record { place = p; name = x; ty = t; length = l; constant = d.constant; align = a; init = i; list = v }) ≡ stripped_object d
-same_object d p x t l a i v e1 e2 e3 e4 e5 e6 = rw (e1, e2, e3, e4, e5, e6) refl
+    stripped_object (record { place = p; name = x; ty = t; length = l; constant = d.constant; align = a; align_first = f; init = i; list = v }) ≡ stripped_object d
+same_object d p x t l a i f v e1 e2 e3 e4 e5 e6 = rw (e1, e2, e3, e4, e5, e6) refl
 
 object_again : (shared : Bool) (d : Object) (n : Token) (s : Specification) (t1 t2 t3 t4 : List Token) (b1 b2 b3 b4 : List Bit) → GoodObject d → n.text ≡ d.name →
     (p : Pointed d.ty d.constant t1 b1) (b : Bracketed d.ty d.length t2 b2) (g : Grouped shared d.align t3 b3) (i : Begun (is_array_type d.ty) d.init d.list t4 b4) → Suits shared d s →
@@ -393,9 +393,9 @@ object_again : (shared : Bool) (d : Object) (n : Token) (s : Specification) (t1 
 object_again shared d n s t1 t2 t3 t4 b1 b2 b3 b4 good named p b g i suits =
     share (typed_again s.words d.ty d.constant b.found good.typed suits.base suits.constant) (λ t.
     record {
-      made = record { place = n.place; name = n.text; ty = t.0; length = length_of (extent_of d.ty b.found); constant = d.constant; align = g.found s.align; init = i.found.init; list = i.found.list };
+      made = record { place = n.place; name = n.text; ty = t.0; length = length_of (extent_of d.ty b.found); constant = d.constant; align = g.found s.align; align_first = is_some s.align; init = i.found.init; list = i.found.list };
       says = rw (g.says s.align suits.unaligned, p.says, b.says, i.says, given_length d.ty d.length d.init d.list b.found i.found.list good.shaped b.same i.listed, t.1) refl;
-      same = same_object d n.place n.text t.0 _ _ _ _ named t.2 (same_length d.ty d.length d.init d.list b.found good.shaped b.same) (g.same s.align suits.aligned suits.unaligned) i.same_init i.same_list;
+      same = same_object d n.place n.text t.0 _ _ _ (is_some s.align) _ named t.2 (same_length d.ty d.length d.init d.list b.found good.shaped b.same) (g.same s.align suits.aligned suits.unaligned) i.same_init i.same_list;
       valued = valued_by d.constant i.found.init d.init i.found.list d.list i.begun i.listed;
     })
 

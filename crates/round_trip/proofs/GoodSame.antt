@@ -10,7 +10,7 @@ use Rattle.c_tree.specs.Tree.{Definition, External, Function, Table}
 use Rattle.c_print.specs.Declarations.{has_const}
 use Rattle.round_trip.specs.Good.{GoodType, Several, Good, GoodKind, GoodAll}
 use Rattle.round_trip.specs.GoodUnits.{first_type, GoodObjectType, GoodPart, GoodList, HasShape, GoodObject, GoodOthers, GoodDeclaration, IsNoArray, GoodParameter, GoodParameters, IsBlock, IsIf, GoodStart, GoodStatement, GoodElse, GoodStatements, GoodFunction, HasValue, GoodItem, GoodUnit}
-use Rattle.round_trip.specs.Printable.{HasNoChar, Writable, WritableKind, WritableAll, WritablePart, WritableList, WritableObject, WritableObjects, WritableStatement, WritableElse, WritableStart, WritableStatements, WritableFunction, WritableItem, WritableUnit}
+use Rattle.round_trip.specs.Printable.{HasNoChar, Writable, WritableKind, WritableAll, WritablePart, WritableList, WritableObject, WritableObjects, WritableParameter, WritableParameters, WritableStatement, WritableElse, WritableStart, WritableStatements, WritableFunction, WritableItem, WritableUnit}
 
 -- from one name of a proposition to another
 to : {A B : Type 0} → A ≡ B → A → B
@@ -327,6 +327,10 @@ writable_objects_same : (os : List Object) → WritableObjects (map stripped_obj
 writable_objects_same [] g = tt
 writable_objects_same (o ∷ os) g = (writable_object_same o g.0, writable_objects_same os g.1)
 
+writable_parameters_same : (os : List Object) → WritableParameters (map stripped_object os) → WritableParameters os
+writable_parameters_same [] g = tt
+writable_parameters_same (o ∷ os) g = (record { object = writable_object_same o g.0.object; unsized = none_left stripped o.length g.0.unsized }, writable_parameters_same os g.1)
+
 mutual
   pub writable_statement_same : (s : Statement) → WritableStatement (stripped_statement s) → WritableStatement s
   writable_statement_same (Declare os) g = writable_objects_same os g
@@ -357,7 +361,7 @@ writable_function_same : (f : Definition) → WritableFunction (stripped_definit
 writable_function_same f g = record {
   name = g.name;
   result = to (writable_type f.result) g.result;
-  params = writable_objects_same f.params g.params;
+  params = writable_parameters_same f.params g.params;
   body = writable_statements_same f.body g.body;
 }
 
@@ -479,6 +483,10 @@ writable_objects_stripped : (os : List Object) → WritableObjects os → Writab
 writable_objects_stripped [] g = tt
 writable_objects_stripped (o ∷ os) g = (writable_object_stripped o g.0, writable_objects_stripped os g.1)
 
+writable_parameters_stripped : (os : List Object) → WritableParameters os → WritableParameters (map stripped_object os)
+writable_parameters_stripped [] g = tt
+writable_parameters_stripped (o ∷ os) g = (record { object = writable_object_stripped o g.0.object; unsized = none_kept stripped o.length g.0.unsized }, writable_parameters_stripped os g.1)
+
 mutual
   pub writable_statement_stripped : (s : Statement) → WritableStatement s → WritableStatement (stripped_statement s)
   writable_statement_stripped (Declare os) g = writable_objects_stripped os g
@@ -509,7 +517,7 @@ writable_function_stripped : (f : Definition) → WritableFunction f → Writabl
 writable_function_stripped f g = record {
   name = g.name;
   result = back (writable_type f.result) g.result;
-  params = writable_objects_stripped f.params g.params;
+  params = writable_parameters_stripped f.params g.params;
   body = writable_statements_stripped f.body g.body;
 }
 

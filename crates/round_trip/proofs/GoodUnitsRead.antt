@@ -28,7 +28,7 @@ use Rattle.c_parse.specs.Items as Items
 use Rattle.c_parse.specs.Items.{Item, IsItem, tree_items, with_body, IsUnit}
 use Rattle.round_trip.specs.Good.{GoodName, GoodAll}
 use Rattle.round_trip.specs.GoodUnits.{first_type, GoodObjectType, GoodPart, GoodList, HasShape, GoodObject, GoodOthers, GoodDeclaration, IsNoArray, GoodParameter, GoodParameters, GoodStart, GoodStatement, GoodStatements, GoodFunction, HasValue, GoodUnit}
-use Rattle.round_trip.specs.Printable.{WritableName, HasNoChar, WritableAll, WritablePart, WritableList, WritableObject, WritableObjects, WritableStatement, WritableStart, WritableStatements, WritableFunction, WritableUnit, Printable}
+use Rattle.round_trip.specs.Printable.{WritableName, HasNoChar, WritableAll, WritablePart, WritableList, WritableObject, WritableObjects, WritableParameter, WritableParameters, WritableStatement, WritableStart, WritableStatements, WritableFunction, WritableUnit, Printable}
 use Rattle.round_trip.proofs.GoodRead.{IsNeonType, Typed, typed_token, WholeIn, specify_whole, BaseIn, base_in, same_type, good_name, good_written, good_expression}
 use Rattle.round_trip.proofs.GoodSame.{same_good_unit, same_writable_unit}
 
@@ -280,7 +280,7 @@ object_in : (s : Specification) (w : WrittenDeclarator) (x : Declarator) (i : In
 object_in s w x i h d f = go (has_length x.extent (initialiser_says i).list) refl
   where
     make : CType × Bool → Object
-    make t = record { place = x.place; name = x.name; ty = t.0; length = length_of x.extent; constant = t.1; align = x.align; init = (initialiser_says i).init; list = (initialiser_says i).list }
+    make t = record { place = x.place; name = x.name; ty = t.0; length = length_of x.extent; constant = t.1; align = x.align; align_first = is_some s.align; init = (initialiser_says i).init; list = (initialiser_says i).list }
 
     made : has_length x.extent (initialiser_says i).list ≡ true → (t : CType × Bool) → TypeIn (base_of s.words) s.words.constant (is_array x.extent) t → ObjectIn s (make t)
     made e t k = record {
@@ -360,17 +360,17 @@ good_table ts o is_static d w = both (subst (Holds TableIn) d.means says)
 
 -- Parameters.
 abbrev ParameterIn : Object → Type 0
-ParameterIn o = WritableObject o → GoodParameter o
+ParameterIn o = WritableParameter o → GoodParameter o
 
 parameter_in : (s : Specification) (w : WrittenDeclarator) (x : Declarator) → SpecificationIn s → DeclaratorIn w x → Holds ParameterIn (parameter s.words x)
 parameter_in s w x h d = go (is_some x.align)
   where
     make : CType × Bool → Object
-    make t = record { place = x.place; name = x.name; ty = t.0; length = None; constant = t.1; align = None; init = None; list = None }
+    make t = record { place = x.place; name = x.name; ty = t.0; length = length_of x.extent; constant = t.1; align = None; align_first = false; init = None; list = None }
 
     made : (t : CType × Bool) → TypeIn (base_of s.words) s.words.constant false t → ParameterIn (make t)
     made t k v = record {
-      good = record { named = d.named v.name; typed = k.good v.ty; shaped = single_shape t.0 None k.is_array; length = tt; align = tt; init = tt; list = tt };
+      good = record { named = d.named v.object.name; typed = k.good v.object.ty; shaped = subst (λ l. HasShape t.0 l None None) (sym v.unsized) (single_shape t.0 None k.is_array); length = d.length v.object.length; align = tt; init = tt; list = tt };
       no_array = k.is_array;
       no_align = refl;
       no_init = refl;
@@ -394,7 +394,7 @@ parameters_in (SomeParameters p others c) f =
     (λ x k. bound (Each ParameterIn) (Each ParameterIn) (means_each (λ i. parameter_says Neon i.1) others) (λ xs. Some (x ∷ xs))
     (means_hold (NextFits Neon (ParameterFits Neon)) ParameterIn (λ i. parameter_says Neon i.1) (λ i f. one_in i.1 f.1) others f.1) (λ xs ks. (k, ks)))
 
-good_parameters : (os : List Object) → Each ParameterIn os → WritableObjects os → GoodParameters os
+good_parameters : (os : List Object) → Each ParameterIn os → WritableParameters os → GoodParameters os
 good_parameters [] h w = tt
 good_parameters (o ∷ os) h w = (h.0 w.0, good_parameters os h.1 w.1)
 

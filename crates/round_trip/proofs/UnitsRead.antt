@@ -88,7 +88,7 @@ parameter_again : (w : Specifiers) (ty : CType) (constant : Bool) → IsNoArray 
 parameter_again w ty constant n = ap (parameter_type w (star_of ty constant)) (sym (no_extent ty None n)) ∙ parameter_same w ty constant None n
 
 parameter_stripped : (d : Object) (p : Place) (x : List ℕ) (t : CType) → x ≡ d.name → unnumbered t ≡ unnumbered d.ty → d.length ≡ None → d.align ≡ None → d.init ≡ None → d.list ≡ None →
-    stripped_object (record { place = p; name = x; ty = t; length = None; constant = d.constant; align = None; init = None; list = None }) ≡ stripped_object d
+    stripped_object (record { place = p; name = x; ty = t; length = None; constant = d.constant; align = None; align_first = false; init = None; list = None }) ≡ stripped_object d
 parameter_stripped d p x t e1 e2 e3 e4 e5 e6 = rw (e1, e2, e3, e4, e5, e6) refl
 
 whole_parameter : List Specifier → Pointing → Token → WrittenParameter
@@ -99,7 +99,7 @@ parameter_made : (d : Object) (t1 t2 t3 : List Token) (b1 b2 b3 : List Bit) (g :
 unfolding whole_parameter
 parameter_made d t1 t2 t3 b1 b2 b3 g s p n =
     share (typed_again s.made.words d.ty d.constant None g.good.typed s.base s.kept) (λ t. (
-      record { place = n.token.place; name = n.token.text; ty = t.0; length = None; constant = d.constant; align = None; init = None; list = None },
+      record { place = n.token.place; name = n.token.text; ty = t.0; length = None; constant = d.constant; align = None; align_first = false; init = None; list = None },
       rw (s.says, plain_says s.made s.is_static s.is_inline, s.none refl, p.says, parameter_again s.made.words d.ty d.constant g.no_array, t.1) refl,
       parameter_stripped d n.token.place n.token.text t.0 n.has t.2 (nothing_else d.ty d.length d.init d.list g.no_array g.good.shaped).0 g.no_align g.no_init (nothing_else d.ty d.length d.init d.list g.no_array g.good.shaped).1,
     ))

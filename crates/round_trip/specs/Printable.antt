@@ -86,6 +86,15 @@ abbrev pub WritableObjects : List Object → Type 0
 WritableObjects [] = Unit {0}
 WritableObjects (o ∷ os) = WritableObject o × WritableObjects os
 
+-- The same of a parameter. The length of an array isn't written, as the parameter is a pointer.
+pub record WritableParameter (o : Object) : Type 0 where
+  pub object : WritableObject o
+  pub unsized : o.length ≡ None
+
+abbrev pub WritableParameters : List Object → Type 0
+WritableParameters [] = Unit {0}
+WritableParameters (o ∷ os) = WritableParameter o × WritableParameters os
+
 -- The same of a statement. The bodies of `if`, `else` and loops are blocks, or an `if` behind `else`.
 abbrev mutual
   pub WritableStatement : Statement → Type 0
@@ -117,7 +126,7 @@ abbrev mutual
 pub record WritableFunction (f : Definition) : Type 0 where
   pub name : WritableName f.name
   pub result : HasNoChar f.result
-  pub params : WritableObjects f.params
+  pub params : WritableParameters f.params
   pub body : WritableStatements f.body
 
 abbrev pub WritableItem : External → Type 0

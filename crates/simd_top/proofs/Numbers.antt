@@ -245,12 +245,12 @@ fine_start x p t (Some e) (Some all) env = known refl
 fine_behind : (d : Object) (a : Option Tree) (env : Env) (l : Length) → Fine (behind_name d a env l)
 fine_behind d a env l =
     fine_bind (fine_small_once (not (is_open (declared_type l.number d.ty env))) d.name d.place (declared_type l.number d.ty env)) (λ u.
-    fine_bind (fine_aligned (not (stands_before d.align d.place)) a (behind_declarator d.name d.constant (declared_type l.number d.ty env) env)) (λ b.
+    fine_bind (fine_aligned (not d.align_first) a (behind_declarator d.name d.constant (declared_type l.number d.ty env) env)) (λ b.
     fine_bind (fine_start d.name d.place (declared_type l.number d.ty env) d.init d.list (behind_declarator d.name d.constant (declared_type l.number d.ty env) env)) (λ s. passes)))
 
 fine_object : (d : Object) (env : Env) → Fine (check_object d env)
 fine_object d env =
-    fine_bind (fine_aligned (stands_before d.align d.place) d.align env) (λ a.
+    fine_bind (fine_aligned d.align_first d.align env) (λ a.
     fine_bind (fine_new_name d.name d.place (read_type env.dialect d.ty) env) (λ u.
     fine_bind (fine_length d.length env) (λ l. fine_behind d a env l)))
 
@@ -318,7 +318,7 @@ fine_function_name x p t env =
     fine_if (is_reserved env.dialect x) (known refl) (fine_if (is_taken x env) (known refl) (fine_if (is_array t) (known refl) (fine_if (is_void_pointer t) (known refl) passes)))
 
 fine_parameter : (d : Object) (env : Env) → Fine (check_parameter d env)
-fine_parameter d env = fine_if (is_bare d) (fine_object d env) (known refl)
+fine_parameter d env = fine_if (is_bare d) (fine_bind (fine_object d env) (λ v. passes)) (known refl)
 
 fine_parameters : (all : List Object) (env : Env) → Fine (check_parameters all env)
 fine_parameters [] env = passes
@@ -339,7 +339,7 @@ fine_table_name d t env =
     fine_if (is_reserved env.dialect d.name) (known refl) (fine_if (is_taken d.name env) (known refl) (fine_if (not (fits_file d t)) (known refl) (fine_if (not d.constant) (known refl) passes)))
 
 fine_scalar_value : (t : CType) (d : Object) (e : Tree) (env : Env) → Fine (scalar_value t d e env)
-fine_scalar_value t d e env = fine_bind (fine_judged (not (stands_before d.align d.place)) d.align env) (λ u. fine_bind (fine_check e env) (λ v. fine_bind (fine_member t true v) (λ w. passes)))
+fine_scalar_value t d e env = fine_bind (fine_judged (not d.align_first) d.align env) (λ u. fine_bind (fine_check e env) (λ v. fine_bind (fine_member t true v) (λ w. passes)))
 
 fine_constant_value : (t : CType) (d : Object) (o : Option Tree) (env : Env) → Fine (constant_value t d o env)
 fine_constant_value t d None env = passes
@@ -347,7 +347,7 @@ fine_constant_value t d (Some e) env = fine_if (is_integer t) (fine_scalar_value
 
 fine_table : (d : Object) (env : Env) → Fine (check_table d env)
 fine_table d env =
-    fine_bind (fine_judged (stands_before d.align d.place) d.align env) (λ u.
+    fine_bind (fine_judged d.align_first d.align env) (λ u.
     fine_bind (fine_table_name d (read_type env.dialect d.ty) env) (λ v.
     fine_bind (fine_constant_value (read_type env.dialect d.ty) d d.init env) (λ w. fine_object d env)))
 

@@ -46,11 +46,11 @@ plain_object d h =
     (none_is d.length e.1, none_is d.align c.1, none_is d.init b.1, none_is d.list a.1, m128 d.ty (split_and (is_register d.ty) (not d.constant) e.0).0)
 
 -- a parameter with its type
-object_typed : (p : Place) (x : List ℕ) (constant : Bool) (scope : Scope) (functions : List (List ℕ × Callee)) (here : ℕ) (calls_none : Bool) →
+object_typed : (p : Place) (x : List ℕ) (constant first : Bool) (scope : Scope) (functions : List (List ℕ × Callee)) (here : ℕ) (calls_none : Bool) →
     is_some (neon_table.find_of x) ≡ false → named x scope ≡ None →
-    check_parameter (record { place = p; name = x; ty = register; length = None; constant = constant; align = None; init = None; list = None }) (seen scope functions here calls_none)
-    ≡ Ok (record { place = p; name = x; ty = register; length = None; constant = constant; align = None; init = None; list = None })
-object_typed p x constant scope functions here calls_none a b = rw (a, b) refl
+    check_parameter (record { place = p; name = x; ty = register; length = None; constant = constant; align = None; align_first = first; init = None; list = None }) (seen scope functions here calls_none)
+    ≡ Ok (record { place = p; name = x; ty = register; length = None; constant = constant; align = None; align_first = first; init = None; list = None })
+object_typed p x constant first scope functions here calls_none a b = rw (a, b) refl
 
 one_more : (d : Object) (ds : List Object) (env : Env) → check_parameter d env ≡ Ok d → check_parameters ds (with_object d.name (known_object d.constant d.ty) env) ≡ Ok ds → check_parameters (d ∷ ds) env ≡ Ok (d ∷ ds)
 one_more d ds env h k = rw (h, k) refl
@@ -75,18 +75,18 @@ not_in false h = refl
 
 -- ---- what is read in place of parameters
 
--- the parameter that is read for one of the form, at its place
-abbrev pub written_parameter : Place → Object → Object
-written_parameter p d = record { place = p; name = d.name; ty = register; length = None; constant = d.constant; align = None; init = None; list = None }
+-- the parameter that is read for one of the form, at its place; it has no alignment, on whichever side that would stand
+abbrev pub written_parameter : Place → Bool → Object → Object
+written_parameter p first d = record { place = p; name = d.name; ty = register; length = None; constant = d.constant; align = None; align_first = first; init = None; list = None }
 
 abbrev pub AreRead : List Object → List Object → Type 0
 AreRead [] [] = Unit {0}
-AreRead (d ∷ ds) (e ∷ es) = (e ≡ written_parameter e.place d) × AreRead ds es
+AreRead (d ∷ ds) (e ∷ es) = (e ≡ written_parameter e.place e.align_first d) × AreRead ds es
 AreRead ds es = ⊥
 
 object_is : (e : Object) (x : List ℕ) (t : CType) (l : Option Tree) (c : Bool) (a i : Option Tree) (s : Option Trees) →
     e.name ≡ x → e.ty ≡ t → e.length ≡ l → e.constant ≡ c → e.align ≡ a → e.init ≡ i → e.list ≡ s →
-    e ≡ record { place = e.place; name = x; ty = t; length = l; constant = c; align = a; init = i; list = s }
+    e ≡ record { place = e.place; name = x; ty = t; length = l; constant = c; align = a; align_first = e.align_first; init = i; list = s }
 object_is e x t l c a i s name type length constant align init list = rw⁻¹ (name, type, length, constant, align, init, list) refl
 
 none_left : {A B : Type 0} (f : A → B) (o : Option A) (p : Option B) → option_map f o ≡ p → p ≡ None → o ≡ None
@@ -103,7 +103,7 @@ register_left Pair h = h
 register_left (Pointer e c) h = h
 register_left (Array e n c) h = absurd (cc)
 
-object_read : (d e : Object) → is_plain d ≡ true → stripped_object e ≡ stripped_object (moved_object d) → e ≡ written_parameter e.place d
+object_read : (d e : Object) → is_plain d ≡ true → stripped_object e ≡ stripped_object (moved_object d) → e ≡ written_parameter e.place e.align_first d
 object_read d e h same =
     let (length, align, init, list, ty) = plain_object d h in
     object_is e d.name register None d.constant None None None
@@ -134,8 +134,8 @@ parameters_typed names (d ∷ ds) (e ∷ es) scope functions here calls_none h u
     let b = split_and (is_plain d && is_free d.name) (not (is_in names d.name)) a.0 in
     let c = split_and (is_plain d) (is_free d.name) b.0 in
     subst {A = Object} (λ o. check_parameters (o ∷ es) (seen scope functions here calls_none) ≡ Ok (o ∷ es)) (sym are.0)
-    (one_more (written_parameter e.place d) es (seen scope functions here calls_none)
-    (object_typed e.place d.name d.constant scope functions here calls_none (no_neon_row d.name c.1) (unseen d.name (not_in (is_in names d.name) b.1)))
+    (one_more (written_parameter e.place e.align_first d) es (seen scope functions here calls_none)
+    (object_typed e.place d.name d.constant e.align_first scope functions here calls_none (no_neon_row d.name c.1) (unseen d.name (not_in (is_in names d.name) b.1)))
     (parameters_typed (names ++ d.name ∷ []) ds es (scope ++ (d.name, known d.constant) ∷ []) functions here calls_none a.1 (unseen_more names d.name (known d.constant) scope unseen) are.1))
 
 pub objects_grow : (ds es : List Object) (scope : Scope) (functions : List (List ℕ × Callee)) (here : ℕ) (calls_none : Bool) → AreRead ds es →

@@ -16,7 +16,7 @@ use Rattle.scopes.specs.Scopes.{Env, Callee, named, with_object}
 use Rattle.expression_types.specs.Check.{◌>>=◌, check}
 use Rattle.expression_types.specs.Typed.{IsArray, IsVoidPointer, Typed}
 use Rattle.expression_types.proofs.Sound.{after}
-use Rattle.object_types.specs.Objects.{is_array, known, stands_before, alignment, aligned, small_once, is_open, new_name, length_of, member, with_number, declared_type, behind_declarator, check_object}
+use Rattle.object_types.specs.Objects.{is_array, known, alignment, aligned, small_once, is_open, new_name, length_of, member, with_number, declared_type, behind_declarator, check_object}
 use Rattle.object_types.specs.Typed as object
 use Rattle.object_types.specs.Typed.{TypedMember, TypedObject}
 use Rattle.statement_types.specs.Statements.{Around, with_objects, around, check_statements}
@@ -56,7 +56,7 @@ name-holds : (x : List ℕ) (p : Place) (u : CType) (env : Env) → MayDefine en
 name-holds x p u env m a v = rw (m.unreserved, define-holds x env m, array-holds u a, void-pointer-holds u v) refl
 
 bare-holds : (d : Object) → IsParameter d → is_bare d ≡ true
-bare-holds d b = rw (b.single, b.unaligned, b.unset, b.unlisted) refl
+bare-holds d b = rw (b.unaligned, b.unset, b.unlisted) refl
 
 -- tables
 table-type-holds : (u : CType) → IsTableType u → is_table_type u ≡ true
@@ -134,20 +134,20 @@ module _ (types : (env : Env) (u v : Tree) → (check u env ≡ Ok v) ↔ Typed 
 
   -- the alignments of a table that is an integer
   scalar-aligned : (env : Env) (d v : Object) (s : IntType) → read_type env.dialect d.ty ≡ Int s → check_object d env ≡ Ok v →
-      (judged_alignment (stands_before d.align d.place) d.align env ≡ Ok true) × (judged_alignment (not (stands_before d.align d.place)) d.align (behind_declarator d.name d.constant (Int s) env) ≡ Ok true)
+      (judged_alignment d.align_first d.align env ≡ Ok true) × (judged_alignment (not d.align_first) d.align (behind_declarator d.name d.constant (Int s) env) ≡ Ok true)
   scalar-aligned env d v s e h =
-      let a = after (aligned (stands_before d.align d.place) d.align env) _ v h in
+      let a = after (aligned d.align_first d.align env) _ v h in
       let n = after (new_name d.name d.place (read_type env.dialect d.ty) env) _ v a.goes in
       let l = after (length_of d.length env) _ v n.goes in
       let u = declared_type l.first.number d.ty env in
       let k = after (small_once (not (is_open u)) d.name d.place u) _ v l.goes in
-      let z = after (aligned (not (stands_before d.align d.place)) a.first (behind_declarator d.name d.constant u env)) _ v k.goes in
+      let z = after (aligned (not d.align_first) a.first (behind_declarator d.name d.constant u env)) _ v k.goes in
       let same : u ≡ Int s = declared-scalar l.first.number (read_type env.dialect d.ty) s e in
-      alignment-judged (stands_before d.align d.place) d.align a.first z.first env (behind_declarator d.name d.constant (Int s) env) a.gives
-      (subst (λ y. aligned (not (stands_before d.align d.place)) a.first (behind_declarator d.name d.constant y env) ≡ Ok z.first) same z.gives)
+      alignment-judged d.align_first d.align a.first z.first env (behind_declarator d.name d.constant (Int s) env) a.gives
+      (subst (λ y. aligned (not d.align_first) a.first (behind_declarator d.name d.constant y env) ≡ Ok z.first) same z.gives)
 
-  first-aligned : (env : Env) (d v : Object) → check_object d env ≡ Ok v → judged_alignment (stands_before d.align d.place) d.align env ≡ Ok true
-  first-aligned env d v h = by (stands_before d.align d.place) d.align (after (aligned (stands_before d.align d.place) d.align env) _ v h).gives
+  first-aligned : (env : Env) (d v : Object) → check_object d env ≡ Ok v → judged_alignment d.align_first d.align env ≡ Ok true
+  first-aligned env d v h = by d.align_first d.align (after (aligned d.align_first d.align env) _ v h).gives
     where
       by : (b : Bool) (m : Option Tree) {a : Option Tree} → aligned b m env ≡ Ok a → judged_alignment b m env ≡ Ok true
       by b None g = refl

@@ -18,7 +18,7 @@ use Rattle.expression_types.specs.Check.{Checked, check}
 use Rattle.expression_types.specs.Typed.{IsArray, Typed}
 use Rattle.expression_types.proofs.Sound.{ok, after, becomes}
 use Rattle.object_types.specs.Reserved.{is_reserved}
-use Rattle.object_types.specs.Objects.{is_array, is_object_type, known, stands_before, is_member, member, behind_declarator, check_object}
+use Rattle.object_types.specs.Objects.{is_array, is_object_type, known, is_member, member, behind_declarator, check_object}
 use Rattle.object_types.specs.Typed as object
 use Rattle.object_types.specs.Typed.{TypedMember, TypedObject}
 use Rattle.object_types.proofs.ObjectTests.{both, unnegated, absent, void-pointer-says}
@@ -28,7 +28,7 @@ use Rattle.order_rule.specs.Callees.{Callees}
 use Rattle.order_rule.specs.Full.{effects_of, order_of}
 use Rattle.order_rule.specs.Rule.{KeepsOrder}
 use Rattle.vector_types.specs.Order.{effects_given, with_callee, Orderly}
-use Rattle.vector_types.specs.Functions.{is_before, is_taken, function_name, is_bare, check_parameter, check_parameters, in_function, check_function}
+use Rattle.vector_types.specs.Functions.{is_before, is_taken, function_name, is_bare, without_length, check_parameter, check_parameters, in_function, check_function}
 use Rattle.vector_types.specs.Tables.{is_table_type, is_table, fits_file, table_name, judged_alignment, scalar_value, constant_value, check_table, beyond_table}
 use Rattle.vector_types.specs.Units.{function_checked, item_checked, beyond_item, next_item, Judged, and_judged, check_items, unless_refused, answer}
 use Rattle.vector_types.proofs.InOrder.{order-says}
@@ -82,10 +82,9 @@ name-says x p u env b h =
 
 bare-says : (d : Object) → is_bare d ≡ true → IsParameter d
 bare-says d h =
-    let q = both (not (is_some d.length) && not (is_some d.align) && not (is_some d.init)) (not (is_some d.list)) h in
-    let r = both (not (is_some d.length) && not (is_some d.align)) (not (is_some d.init)) q.0 in
-    let s = both (not (is_some d.length)) (not (is_some d.align)) r.0 in
-    record { single = unset d.length s.0; unaligned = unset d.align s.1; unset = unset d.init r.1; unlisted = unset d.list q.1 }
+    let q = both (not (is_some d.align) && not (is_some d.init)) (not (is_some d.list)) h in
+    let r = both (not (is_some d.align)) (not (is_some d.init)) q.0 in
+    record { unaligned = unset d.align r.0; unset = unset d.init r.1; unlisted = unset d.list q.1 }
 
 -- tables
 chosen : (c x y : Bool) → c ≡ true → (if c then x else y) ≡ true → x ≡ true
@@ -128,8 +127,9 @@ module _ (types : (env : Env) (u v : Tree) → (check u env ≡ Ok v) ↔ Typed 
       let x = after (check_parameter d env) _ v h in
       let inner = with_object x.first.name (known x.first.constant x.first.ty) env in
       let y = after (check_parameters rest inner) _ v x.goes in
-      let q = lets (is_bare d) _ (check_object d env) x.first x.gives in
-      becomes (TypedParameters env (d ∷ rest)) _ v y.goes (t.one_parameter env d x.first rest y.first (bare-says d q.0) ((objects env d x.first).0 q.1) (parameters-typed rest inner y.first y.gives))
+      let q = lets (is_bare d) _ (check_object d env >>= λ w. Ok (without_length w)) x.first x.gives in
+      let w = after (check_object d env) _ x.first q.1 in
+      becomes (λ z. TypedParameters env (d ∷ rest) (z ∷ y.first) → TypedParameters env (d ∷ rest) v) (without_length w.first) x.first w.goes (becomes (λ us. TypedParameters env (d ∷ rest) (x.first ∷ y.first) → TypedParameters env (d ∷ rest) us) _ v y.goes (λ t. t)) (t.one_parameter env d w.first rest y.first (bare-says d q.0) ((objects env d w.first).0 w.gives) (parameters-typed rest inner y.first y.gives))
 
   function-typed : (env : Env) (f v : Definition) → check_function f env ≡ Ok v → TypedFunction env f v
   function-typed env f v h =
@@ -157,7 +157,7 @@ module _ (types : (env : Env) (u v : Tree) → (check u env ≡ Ok v) ↔ Typed 
   value-says d u o env b h s e k l =
       let inner = behind_declarator d.name d.constant (Int s) env in
       let passes : scalar_value (Int s) d e inner ≡ Ok b = subst (λ x. constant_value x d (Some e) env ≡ Ok b) k (subst (λ x. constant_value u d x env ≡ Ok b) l h) in
-      let a = after (judged_alignment (not (stands_before d.align d.place)) d.align inner) _ b passes in
+      let a = after (judged_alignment (not d.align_first) d.align inner) _ b passes in
       let x = after (check e inner) _ b a.goes in
       let y = after (member (Int s) true x.first) _ b x.goes in
       (y.first, member-says s e x.first y.first inner x.gives y.gives)
@@ -165,7 +165,7 @@ module _ (types : (env : Env) (u v : Tree) → (check u env ≡ Ok v) ↔ Typed 
   table-typed : (env : Env) (d v : Object) → check_table d env ≡ Ok v → TypedTable env d v
   table-typed env d v h =
       let u = read_type env.dialect d.ty in
-      let a = after (judged_alignment (stands_before d.align d.place) d.align env) _ v h in
+      let a = after (judged_alignment d.align_first d.align env) _ v h in
       let n = after (table_name d u env) _ v a.goes in
       let k = after (constant_value u d d.init env) _ v n.goes in
       let q = table-name-says d u env n.first n.gives in

@@ -59,12 +59,16 @@ function_name x p t env =
     else if is_void_pointer t then refuse 18 p (short x)
     else Ok true
 
--- a parameter is a declared object that has no length, no alignment and no initialiser (6.7.5p2, 6.9.1p6)
+-- a parameter is a declared object that has no alignment and no initialiser (6.7.5p2, 6.9.1p6)
 abbrev pub is_bare : Object → Bool
-is_bare d = not (is_some d.length) && not (is_some d.align) && not (is_some d.init) && not (is_some d.list)
+is_bare d = not (is_some d.align) && not (is_some d.init) && not (is_some d.list)
+
+-- the length of an array is judged as that of each object; the parameter is a pointer, and its length isn't kept (6.7.6.3p7)
+abbrev pub without_length : Object → Object
+without_length d = record d { length = None }
 
 abbrev pub check_parameter : Object → Env → Checked Object
-check_parameter d env = if is_bare d then check_object d env else refuse 11 d.place (short d.name)
+check_parameter d env = if is_bare d then (check_object d env >>= λ v. Ok (without_length v)) else refuse 11 d.place (short d.name)
 
 abbrev pub check_parameters : List Object → Env → Checked (List Object)
 check_parameters [] env = Ok []

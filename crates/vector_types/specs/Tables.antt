@@ -11,7 +11,7 @@ use Rattle.scopes.specs.Scopes.{Env, with_object}
 use Rattle.expression_types.specs.Marks.{short}
 use Rattle.expression_types.specs.Check.{◌>>=◌, Checked, refuse, check}
 use Rattle.object_types.specs.Reserved.{is_reserved}
-use Rattle.object_types.specs.Objects.{is_object_type, alignment, member, count_all, count_of, known, stands_before, declared_type, behind_declarator, check_object}
+use Rattle.object_types.specs.Objects.{is_object_type, alignment, member, count_all, count_of, known, declared_type, behind_declarator, check_object}
 use Rattle.vector_types.specs.Functions.{is_taken}
 
 -- an integer type, and an array of one
@@ -45,7 +45,7 @@ judged_alignment now (Some e) env = if now then (alignment e env >>= λ _. Ok tr
 -- The value of a table that is an integer: a constant (6.6, 6.7.9p4), as a member of an array's initialiser is. It sees the table's name, and
 -- stands behind the alignment that stands behind the name.
 abbrev pub scalar_value : CType → Object → Tree → Env → Checked Bool
-scalar_value t d e env = judged_alignment (not (stands_before d.align d.place)) d.align env >>= λ _. check e env >>= λ v. member t true v >>= λ _. Ok true
+scalar_value t d e env = judged_alignment (not d.align_first) d.align env >>= λ _. check e env >>= λ v. member t true v >>= λ _. Ok true
 
 abbrev pub constant_value : CType → Object → Option Tree → Env → Checked Bool
 constant_value t d None env = Ok true
@@ -55,7 +55,7 @@ constant_value t d (Some e) env = if is_integer t then scalar_value t d e (behin
 -- any declared object.
 abbrev pub check_table : Object → Env → Checked Object
 check_table d env =
-    judged_alignment (stands_before d.align d.place) d.align env >>= λ _.
+    judged_alignment d.align_first d.align env >>= λ _.
     table_name d (read_type env.dialect d.ty) env >>= λ _.
     constant_value (read_type env.dialect d.ty) d d.init env >>= λ _.
     check_object d env

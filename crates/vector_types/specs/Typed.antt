@@ -16,7 +16,7 @@ use Rattle.statement_types.specs.Statements.{with_objects, around}
 use Rattle.statement_types.specs.Typed.{TypedStatements}
 use Rattle.order_rule.specs.Callees.{Callees}
 use Rattle.order_rule.specs.Full.{effects_of}
-use Rattle.vector_types.specs.Functions.{in_function}
+use Rattle.vector_types.specs.Functions.{without_length, in_function}
 use Rattle.vector_types.specs.Order.{with_callee, Orderly}
 use Rattle.vector_types.specs.Units.{next_item, unit_env}
 
@@ -26,17 +26,17 @@ pub record MayDefine (env : Env) (x : List ℕ) : Type 0 where
   pub undeclared : named x env.innermost ≡ None
   pub undefined : (f : Callee) → named x env.functions ≡ Some f → f.order < env.here → ⊥
 
--- a parameter has no length, as it is no array (6.7.6.3p7), no alignment (6.7.5p2) and no initialiser (6.9.1p6)
+-- a parameter has no alignment (6.7.5p2) and no initialiser (6.9.1p6)
 pub record IsParameter (d : Object) : Type 0 where
-  pub single : d.length ≡ None
   pub unaligned : d.align ≡ None
   pub unset : d.init ≡ None
   pub unlisted : d.list ≡ None
 
--- parameters, each in the scope with those before it (6.2.1p7)
+-- Parameters, each in the scope with those before it (6.2.1p7). An array's length is a constant expression as every object's; as the
+-- parameter is a pointer, it isn't kept (6.7.6.3p7).
 pub data TypedParameters : Env → List Object → List Object → Type 0 where
   no_parameter : (env : Env) → TypedParameters env [] []
-  one_parameter : (env : Env) (d v : Object) (rest more : List Object) → IsParameter d → TypedObject env d v → TypedParameters (with_object v.name (known v.constant v.ty) env) rest more → TypedParameters env (d ∷ rest) (v ∷ more)
+  one_parameter : (env : Env) (d v : Object) (rest more : List Object) → IsParameter d → TypedObject env d v → TypedParameters (with_object v.name (known v.constant v.ty) env) rest more → TypedParameters env (d ∷ rest) (without_length v ∷ more)
 
 -- A function gives no array (6.7.6.3p1) and no pointer to `void`. Its parameters and the outermost block of its body are one scope (6.2.1p4).
 pub data TypedFunction (env : Env) : Definition → Definition → Type 0 where

@@ -44,7 +44,7 @@ fn function_name(
 fn is_bare(d: &Declared) -> bool
     ensures { result ≡ is_bare (view_declared d.now) }
 {
-    !d.length.is_some() && !d.align.is_some() && !d.init.is_some() && !d.list.is_some()
+    !d.align.is_some() && !d.init.is_some() && !d.list.is_some()
 }
 
 // A parameter with its types. The innermost scope declares it then.
@@ -54,7 +54,9 @@ fn check_parameter(alloc: Global, env: &mut Environment, d: &Declared) -> Result
     ensures kept { OnRefusal result (at_file (env_of env.new) ≡ at_file (env_of env.old)) }
 {
     if is_bare(d) {
-        check_object(alloc, env, d)
+        let mut v = check_object(alloc, env, d)?;
+        v.length = None;
+        Ok(v)
     } else {
         Err(name_fault(alloc, 11, d.place, &d.name)?)
     }

@@ -16,7 +16,6 @@ use const_imm::eval_const;
 use expression_types::{Environment, Fail, Object, check_expression, name_fault};
 use object_types::{
     alignment, check_object, declared_type, is_object_type, is_reserved, known, member,
-    stands_before,
 };
 use scopes::scopes_end;
 use std::alloc::{AllocError, Global};
@@ -93,7 +92,7 @@ fn scalar_value(
 ) -> Result<(), Fail>
     ensures { Gives (λ _. true) result (scalar_value t (view_declared d.now) (view e.now) (env_of env.now)) }
 {
-    judged_alignment(alloc, !stands_before(&d.align, d.place), env, &d.align)?;
+    judged_alignment(alloc, !d.align_first, env, &d.align)?;
     let e = check_expression(alloc, env, e)?;
     member(alloc, t, true, e)?;
     Ok(())
@@ -141,7 +140,7 @@ fn judged(alloc: Global, env: &mut Environment, d: &Declared) -> Result<Declared
     ensures kept { OnRefusal result (at_file (env_of env.new) ≡ at_file (env_of env.old)) }
 {
     let t = read_type(env.dialect, d.ty);
-    judged_alignment(alloc, stands_before(&d.align, d.place), &*env, &d.align)?;
+    judged_alignment(alloc, d.align_first, &*env, &d.align)?;
     table_name(alloc, &*env, d, t)?;
     constant_value(alloc, env, d, t)?;
     check_object(alloc, env, d)
