@@ -1,9 +1,8 @@
 -- Tests of declared objects' parts and what they say.
-use Rattle.std.proofs.Common.{◌≡◌, ◌∙◌, ℕ, zero, suc, ◌^◌, ◌≤◌, ◌⊎◌, inl, inr, Bool, true, false, not, ◌&&◌, ◌||◌, if◌then◌else◌, nat_eq, nat_lt, is_some, Option, Some, None, ℤ, pos, negsuc, int_le, unsigned_abs, refl, ap, subst, arith}
-use Rattle.std.proofs.lemmas.Bool.{eqb-true, eq-eqb, ltb-true, lt-ltb, leb-true, le-leb}
+use Rattle.std.proofs.Common.{◌≡◌, ◌∙◌, ℕ, zero, suc, ◌^◌, ◌≤◌, ◌⊎◌, inl, inr, Bool, true, false, not, ◌&&◌, ◌||◌, if◌then◌else◌, nat_eq, is_some, Option, Some, None, ℤ, pos, negsuc, int_le, unsigned_abs, refl, ap, subst, arith}
+use Rattle.std.proofs.lemmas.Bool.{eqb-true, leb-true, le-leb}
 use Rattle.std.proofs.lemmas.Bool.Decides.{Decides-int_eq}
 use Rattle.std.specs.Ordering.{int_eq}
-use Rattle.c_text.specs.declared.tokens.Place.{Place}
 use Rattle.lane_core.specs.declared.vector.Pointee.{Pointee}
 use Rattle.lane_core.specs.declared.vector.Pointee.TheVariants as target
 use Rattle.const_imm.specs.Sizes.{size_of}

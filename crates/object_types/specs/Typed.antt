@@ -1,6 +1,5 @@
 -- What it is that a declared object is another one with its types set (C11 6.7 and the profile).
-use Rattle.std.specs.Prelude.{◌≡◌, ℕ, ◌^◌, ◌<◌, ◌≤◌, ◌⊎◌, Bool, false, List, Option, Some, None, ℤ, pos}
-use Rattle.c_text.specs.declared.tokens.Place.{Place}
+use Rattle.std.specs.Prelude.{◌≡◌, ℕ, ◌^◌, ◌≤◌, ◌⊎◌, Bool, true, false, List, Option, Some, None, ℤ, pos}
 use Rattle.lane_core.specs.declared.number.IntType.{IntType}
 use Rattle.lane_core.specs.declared.number.Num.{Num}
 use Rattle.lane_core.specs.declared.vector.Pointee.{Pointee}
@@ -10,7 +9,7 @@ use Rattle.const_imm.specs.Sizes.{size_of}
 use Rattle.c_tree.specs.declared.types.CType.{CType}
 use Rattle.c_tree.specs.declared.types.CType.TheVariants.{Void, Int, Array}
 use Rattle.c_tree.specs.Tree.{Tree, Trees, NoTrees, More, Object}
-use Rattle.type_rules.specs.Types.{node_place, read_type}
+use Rattle.type_rules.specs.Types.{read_type}
 use Rattle.type_rules.specs.Rules.{IsObject, Assigned}
 use Rattle.scopes.specs.Scopes.{Env, named}
 use Rattle.expression_types.specs.Typed.{IsArray, IsVoidPointer, Typed}
