@@ -25,6 +25,8 @@ mod lanes;
 #[cfg(test)]
 mod leaves;
 #[cfg(test)]
+mod macro_uses;
+#[cfg(test)]
 mod making;
 #[cfg(test)]
 mod names_in_scopes;

@@ -47,7 +47,7 @@ int f(int p[p]) { return 0; } -> 1:13 10 p
 int f(const char p[2 + 1]) { return p[2]; } -> f: Int(Int)(Pointer(Int(Char), true)) = Int(Int) <- Int(Char)
 int f(int p[100000]) { return p[2]; } -> f: Int(Int)(Pointer(Int(Int), false)) = Int(Int)
 void f(void) { int x __attribute__((aligned(sizeof(x)))); } -> 1:52 11 x
-void f(void) { _Alignas(sizeof(x)) int x; } -> 1:25 10 x";
+void f(void) { _Alignas(sizeof(x)) int x; } -> 1:32 10 x";
 
 // The same of excluded forms, reserved names and tables.
 const NAMES: &str = "\
