@@ -10,14 +10,14 @@ pub returns-then-not-is_c_token-clause-refused : goal.returns-then-not-is_c_toke
 returns-then-not-is_c_token-clause-refused c =
     let t = c.args.token.now in
     let no : is_c_token t.kind t.text ≡ false = search rules in
-    refused_as _ _ (refusal_of 4 t) c.refuse.ensures (no_token c.args.dialect (reverse c.args.before.now) c.args.after.now t no)
+    refused_as _ _ (refusal_of 4 t) c.refuse_token.ensures (no_token c.args.dialect (reverse c.args.before.now) c.args.after.now t no)
 
 pub returns-then-is_excluded-clause-refused : goal.returns-then-is_excluded-clause-refused
 returns-then-is_excluded-clause-refused c =
     let t = c.args.token.now in
     let is : is_c_token t.kind t.text ≡ true = search rules in
     let excluded : is_excluded c.args.dialect t.kind t.text ≡ true = search rules in
-    refused_as _ _ (refusal_of 18 t) c.refuse-then-is_excluded.ensures (excluded_word c.args.dialect (reverse c.args.before.now) c.args.after.now t is excluded)
+    refused_as _ _ (refusal_of 18 t) c.refuse_token-then-is_excluded.ensures (excluded_word c.args.dialect (reverse c.args.before.now) c.args.after.now t is excluded)
 
 pub count-requires-clause-within : goal.count-requires-clause-within
 count-requires-clause-within c =
@@ -33,7 +33,7 @@ returns-then-is_too_deep-clause-refused c =
     let allowed : is_excluded c.args.dialect t.kind t.text ≡ false = search rules in
     let shown = behind_shown n.current n.outer.items t before c.args.after.now _ _ _ c.token_role.ensures c.opens_block.ensures c.next_role.ensures (c.in_ok-count.ensures _ c.requires.shown) in
     let deep = depth_shown n.current n.outer.items _ c.dialect_limits.result c.args.dialect c.is_too_deep.result true c.is_too_deep.ensures.shown shown c.dialect_limits.ensures c.if-is_too_deep.true in
-    refused_as _ _ (refusal_of 19 t) c.refuse-then-is_too_deep.ensures (too_deep c.args.dialect before c.args.after.now t is allowed deep)
+    refused_as _ _ (refusal_of 19 t) c.refuse_token-then-is_too_deep.ensures (too_deep c.args.dialect before c.args.after.now t is allowed deep)
 
 pub returns-clause-ok : goal.returns-clause-ok
 returns-clause-ok c =
