@@ -1,6 +1,6 @@
 //! The rows of SSSE3 and SSE4.1 that move lanes.
 
-ghost use Rattle.std.specs.Prelude.{◌≡◌};
+ghost use Rattle.std.specs.Prelude.{◌≡◌, ◌<◌, ◌+◌, ◌∷◌, drop, length};
 ghost use Rattle.row_names.specs.Groups.{first_named};
 ghost use Rattle.intel_more.specs.Named.{name_of};
 ghost use Rattle.intel_more.specs.MovesRows.{moves_row, moves_rows};
@@ -10,7 +10,7 @@ use intel_forms::Form;
 use intel_forms::Size::Xmm;
 use intel_forms::forms::Extension;
 use intel_lanes::blocks::{Two, TwoImm};
-use row_names::{form_of_row, name_of_row, names_and_rows, row_named};
+use row_names::{form_of_row, name_of_row, names_and_rows, row_at, row_named};
 
 /// The rows of the group, named after the intrinsics.
 #[derive(Clone, Copy, Debug, PartialEq, Eq)]
@@ -61,6 +61,22 @@ macro_rules! group {
 }
 
 static ROWS: &[(&str, MoreOp)] = group!(names_and_rows MoreOp);
+
+#[tactic(auto, unfolding(crate::specs::MovesRows::moves_rows))]
+pub fn count() -> usize
+    ensures value { result ≡ length moves_rows }
+    ensures few { result < 33 }
+{
+    ROWS.len()
+}
+
+#[tactic(auto, unfolding(crate::specs::MovesRows::moves_rows))]
+pub fn at(k: usize) -> MoreOp
+    requires { k < length moves_rows }
+    ensures { drop k moves_rows ≡ result ∷ drop (k + 1) moves_rows }
+{
+    row_at(ROWS, k)
+}
 
 pub fn find(name: &[u8]) -> Option<MoreOp>
     ensures { result ≡ first_named name_of moves_rows name.now }

@@ -1,6 +1,6 @@
 //! The rows of SSE4.1 that take or give integers or find a place.
 
-ghost use Rattle.std.specs.Prelude.{◌≡◌};
+ghost use Rattle.std.specs.Prelude.{◌≡◌, ◌<◌, ◌+◌, ◌∷◌, drop, length};
 ghost use Rattle.row_names.specs.Groups.{first_named};
 ghost use Rattle.intel_more.specs.Named.{name_of};
 ghost use Rattle.intel_more.specs.ScalarsRows.{scalars_row, scalars_rows};
@@ -11,7 +11,7 @@ use intel_forms::Size::Xmm;
 use intel_forms::scalars::{Scalar, Test};
 use intel_lanes::blocks::One;
 use intel_lanes::lanes::Width::{Byte, Dword, Qword};
-use row_names::{form_of_row, name_of_row, names_and_rows, row_named};
+use row_names::{form_of_row, name_of_row, names_and_rows, row_at, row_named};
 
 /// The rows of the group, named after the intrinsics.
 #[derive(Clone, Copy, Debug, PartialEq, Eq)]
@@ -52,6 +52,22 @@ macro_rules! group {
 }
 
 static ROWS: &[(&str, MoreOp)] = group!(names_and_rows MoreOp);
+
+#[tactic(auto, unfolding(crate::specs::ScalarsRows::scalars_rows))]
+pub fn count() -> usize
+    ensures value { result ≡ length scalars_rows }
+    ensures few { result < 33 }
+{
+    ROWS.len()
+}
+
+#[tactic(auto, unfolding(crate::specs::ScalarsRows::scalars_rows))]
+pub fn at(k: usize) -> MoreOp
+    requires { k < length scalars_rows }
+    ensures { drop k scalars_rows ≡ result ∷ drop (k + 1) scalars_rows }
+{
+    row_at(ROWS, k)
+}
 
 pub fn find(name: &[u8]) -> Option<MoreOp>
     ensures { result ≡ first_named name_of scalars_rows name.now }

@@ -17,7 +17,7 @@ use Rattle.intel_wide.specs.Rows as wide
 use Rattle.intel_rows.specs.declared.IntelOp.{IntelOp}
 use Rattle.intel_rows.specs.declared.Part.{Part}
 use Rattle.intel_rows.specs.declared.Part.TheVariants.{Base, More, Wide}
-use Rattle.intel_rows.specs.Rows.{of_base, of_more, of_wide, part_name, name_of, rows, names, find_of, is_half, listed}
+use Rattle.intel_rows.specs.Rows.{of_base, of_more, of_wide, part_name, name_of, base_rows, more_rows, wide_rows, rows, names, find_of, is_half, listed}
 use Rattle.intel_sse2.specs.ArithmeticRows as base_arithmetic
 use Rattle.intel_sse2.specs.declared.arithmetic.Arithmetic.TheVariants as base_arithmetic_row
 use Rattle.intel_sse2.specs.LogicRows as base_logic
@@ -67,7 +67,7 @@ found_in_part text row name xs e = find_rows text row name_of name xs e
 
 -- a row is found where the first part that has the name finds it
 pub found_in_parts : (name : List ℕ) → find_of name ≡ option_or (option_map of_base (base.find_of name)) (option_or (option_map of_more (more.find_of name)) (option_map of_wide (wide.find_of name)))
-unfolding find_of rows
+unfolding find_of base_rows more_rows wide_rows
 found_in_parts name =
     named_in_both name_of (map of_base base.rows) (map of_more more.rows ++ map of_wide wide.rows) name
     ∙ ap (λ o. option_or o (first_named name_of (map of_more more.rows ++ map of_wide wide.rows) name)) (found_in_part base_named.name_of of_base name base.rows (map_names base_named.name_of of_base (λ x. refl) base.rows))
@@ -92,7 +92,7 @@ none_exactly_outside name = none_where_no_name name_of name rows (find_of name) 
 
 -- a row of the list is found by its name: computed for each. A law names one row of a group, and its last line stands for the others
 found_part : (row : Part) → find_of (part_name row) ≡ listed (record { row = row })
-unfolding find_of first_named rows base_arithmetic.arithmetic_rows base_logic.logic_rows base_moves.moves_rows base_scalars.scalars_rows base_loads.loads_rows more_arithmetic.arithmetic_rows more_moves.moves_rows more_scalars.scalars_rows wide_avx2.avx2_rows wide_arithmetic.arithmetic_rows wide_more_arithmetic.more_arithmetic_rows wide_logic.logic_rows wide_shifts.shifts_rows wide_moves.moves_rows wide_crossing.crossing_rows wide_scalars.scalars_rows wide_loads.loads_rows
+unfolding find_of first_named base_rows more_rows wide_rows base_arithmetic.arithmetic_rows base_logic.logic_rows base_moves.moves_rows base_scalars.scalars_rows base_loads.loads_rows more_arithmetic.arithmetic_rows more_moves.moves_rows more_scalars.scalars_rows wide_avx2.avx2_rows wide_arithmetic.arithmetic_rows wide_more_arithmetic.more_arithmetic_rows wide_logic.logic_rows wide_shifts.shifts_rows wide_moves.moves_rows wide_crossing.crossing_rows wide_scalars.scalars_rows wide_loads.loads_rows
 found_part (Base (base_row.Arithmetic base_arithmetic_row.AddEpi16)) = refl
 found_part (Base (base_row.Arithmetic _)) = refl
 found_part (Base (base_row.Logic base_logic_row.AndSi128)) = refl

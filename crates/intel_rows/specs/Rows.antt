@@ -48,9 +48,19 @@ name_of op = part_name op.row
 abbrev pub form_of : IntelOp → Form
 form_of op = part_form op.row
 
+-- the rows of each part
+unfoldable pub base_rows : List IntelOp
+base_rows = map of_base base.rows
+
+unfoldable pub more_rows : List IntelOp
+more_rows = map of_more more.rows
+
+unfoldable pub wide_rows : List IntelOp
+wide_rows = map of_wide wide.rows
+
 -- the list, part by part
-unfoldable pub rows : List IntelOp
-rows = map of_base base.rows ++ (map of_more more.rows ++ map of_wide wide.rows)
+abbrev pub rows : List IntelOp
+rows = base_rows ++ (more_rows ++ wide_rows)
 
 -- the names in the list
 unfoldable pub names : List (List ℕ)

@@ -1,11 +1,11 @@
 //! The table of Intel rows: names, signatures, immediates, accesses and values.
 #![tactic(auto)]
 
-ghost use Rattle.std.specs.Prelude.{◌≡◌, ◌≤◌, ◌↔◌, IsNone, IfSome, Contains, option_map};
+ghost use Rattle.std.specs.Prelude.{◌≡◌, ◌<◌, ◌≤◌, ◌+◌, ◌∷◌, ◌++◌, drop, length, ◌↔◌, IsNone, IfSome, Contains, option_map};
 ghost use Rattle.lane_core.specs.Table.{Fits, InImmRange};
 ghost use Rattle.intel_forms.specs.MemoryLaws.{Inside};
 ghost use Rattle.intel_rows.specs.declared.IntelOp.{IntelOp};
-ghost use Rattle.intel_rows.specs.Rows.{of_base, of_more, of_wide, names, find_of, listed, name_of, form_of, signature_of, range_of, accesses_of, access_of, register_of, eval_of};
+ghost use Rattle.intel_rows.specs.Rows.{of_base, of_more, of_wide, base_rows, more_rows, wide_rows, rows, names, find_of, listed, name_of, form_of, signature_of, range_of, accesses_of, access_of, register_of, eval_of};
 
 use intel_forms::Form;
 use intel_more::MoreOp;
@@ -81,6 +81,89 @@ pub fn find(name: &[u8]) -> Option<IntelOp>
     ensures none { IsNone result ↔ ¬ (Contains names name.now) }
 {
     found(name)
+}
+
+/// How many rows the table has.
+pub fn count() -> usize
+    ensures { result ≡ length rows }
+{
+    base_count() + more_count() + wide_count()
+}
+
+/// Row `k` of the table's list, counted from 0.
+#[tactic(auto, using(row_names::proofs::Listed::in_first, row_names::proofs::Listed::behind_first))]
+pub fn at(k: usize) -> IntelOp
+    requires { k < length rows }
+    ensures { drop k rows ≡ result ∷ drop (k + 1) rows }
+{
+    let first = base_count();
+    if k < first {
+        base_at(k)
+    } else {
+        from_more(k - first)
+    }
+}
+
+/// Row `k` of the parts from `intel_more` on.
+#[tactic(auto, using(row_names::proofs::Listed::in_first, row_names::proofs::Listed::behind_first))]
+fn from_more(k: usize) -> IntelOp
+    requires { k < length (more_rows ++ wide_rows) }
+    ensures { drop k (more_rows ++ wide_rows) ≡ result ∷ drop (k + 1) (more_rows ++ wide_rows) }
+{
+    let first = more_count();
+    if k < first {
+        more_at(k)
+    } else {
+        wide_at(k - first)
+    }
+}
+
+fn base_count() -> usize
+    ensures value { result ≡ length base_rows }
+    ensures few { result < 1024 }
+{
+    intel_sse2::count()
+}
+
+fn base_at(k: usize) -> IntelOp
+    requires { k < length base_rows }
+    ensures { drop k base_rows ≡ result ∷ drop (k + 1) base_rows }
+{
+    IntelOp {
+        row: Part::Base(intel_sse2::at(k)),
+    }
+}
+
+fn more_count() -> usize
+    ensures value { result ≡ length more_rows }
+    ensures few { result < 1024 }
+{
+    intel_more::count()
+}
+
+fn more_at(k: usize) -> IntelOp
+    requires { k < length more_rows }
+    ensures { drop k more_rows ≡ result ∷ drop (k + 1) more_rows }
+{
+    IntelOp {
+        row: Part::More(intel_more::at(k)),
+    }
+}
+
+fn wide_count() -> usize
+    ensures value { result ≡ length wide_rows }
+    ensures few { result < 1024 }
+{
+    intel_wide::count()
+}
+
+fn wide_at(k: usize) -> IntelOp
+    requires { k < length wide_rows }
+    ensures { drop k wide_rows ≡ result ∷ drop (k + 1) wide_rows }
+{
+    IntelOp {
+        row: Part::Wide(intel_wide::at(k)),
+    }
 }
 
 /// The row's name. `find` gives the row for it, but for the half of a 256-bit compare, and no other row has it.

@@ -1,6 +1,6 @@
 //! The rows of SSE2 and SSE3 that load and store.
 
-ghost use Rattle.std.specs.Prelude.{◌≡◌};
+ghost use Rattle.std.specs.Prelude.{◌≡◌, ◌<◌, ◌+◌, ◌∷◌, drop, length};
 ghost use Rattle.row_names.specs.Groups.{first_named};
 ghost use Rattle.intel_sse2.specs.Named.{name_of};
 ghost use Rattle.intel_sse2.specs.LoadsRows.{loads_row, loads_rows};
@@ -9,7 +9,7 @@ use crate::BaseOp;
 use intel_forms::Form;
 use intel_forms::Size::Xmm;
 use intel_forms::memory::Memory;
-use row_names::{form_of_row, name_of_row, names_and_rows, row_named};
+use row_names::{form_of_row, name_of_row, names_and_rows, row_at, row_named};
 
 /// The rows of the group, named after the intrinsics.
 #[derive(Clone, Copy, Debug, PartialEq, Eq)]
@@ -40,6 +40,22 @@ macro_rules! group {
 }
 
 static ROWS: &[(&str, BaseOp)] = group!(names_and_rows BaseOp);
+
+#[tactic(auto, unfolding(crate::specs::LoadsRows::loads_rows))]
+pub fn count() -> usize
+    ensures value { result ≡ length loads_rows }
+    ensures few { result < 33 }
+{
+    ROWS.len()
+}
+
+#[tactic(auto, unfolding(crate::specs::LoadsRows::loads_rows))]
+pub fn at(k: usize) -> BaseOp
+    requires { k < length loads_rows }
+    ensures { drop k loads_rows ≡ result ∷ drop (k + 1) loads_rows }
+{
+    row_at(ROWS, k)
+}
 
 pub fn find(name: &[u8]) -> Option<BaseOp>
     ensures { result ≡ first_named name_of loads_rows name.now }

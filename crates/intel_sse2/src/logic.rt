@@ -1,6 +1,6 @@
 //! The rows of SSE2 that compute with bits: logic, compares and shifts.
 
-ghost use Rattle.std.specs.Prelude.{◌≡◌};
+ghost use Rattle.std.specs.Prelude.{◌≡◌, ◌<◌, ◌+◌, ◌∷◌, drop, length};
 ghost use Rattle.row_names.specs.Groups.{first_named};
 ghost use Rattle.intel_sse2.specs.Named.{name_of};
 ghost use Rattle.intel_sse2.specs.LogicRows.{logic_row, logic_rows};
@@ -11,7 +11,7 @@ use intel_forms::Size::Xmm;
 use intel_lanes::blocks::{OneImm, Two};
 use intel_lanes::lanes::Width::{Byte, Dword, Qword, Word};
 use intel_lanes::lanes::{Lane2, Shift};
-use row_names::{form_of_row, name_of_row, names_and_rows, row_named};
+use row_names::{form_of_row, name_of_row, names_and_rows, row_at, row_named};
 
 /// The rows of the group, named after the intrinsics.
 #[derive(Clone, Copy, Debug, PartialEq, Eq)]
@@ -86,6 +86,22 @@ macro_rules! group {
 }
 
 static ROWS: &[(&str, BaseOp)] = group!(names_and_rows BaseOp);
+
+#[tactic(auto, unfolding(crate::specs::LogicRows::logic_rows))]
+pub fn count() -> usize
+    ensures value { result ≡ length logic_rows }
+    ensures few { result < 33 }
+{
+    ROWS.len()
+}
+
+#[tactic(auto, unfolding(crate::specs::LogicRows::logic_rows))]
+pub fn at(k: usize) -> BaseOp
+    requires { k < length logic_rows }
+    ensures { drop k logic_rows ≡ result ∷ drop (k + 1) logic_rows }
+{
+    row_at(ROWS, k)
+}
 
 pub fn find(name: &[u8]) -> Option<BaseOp>
     ensures { result ≡ first_named name_of logic_rows name.now }

@@ -1,6 +1,6 @@
 //! The rows on 32 bytes that compute with numbers as SSE2's do.
 
-ghost use Rattle.std.specs.Prelude.{◌≡◌};
+ghost use Rattle.std.specs.Prelude.{◌≡◌, ◌<◌, ◌+◌, ◌∷◌, drop, length};
 ghost use Rattle.row_names.specs.Groups.{first_named};
 ghost use Rattle.intel_wide.specs.Named.{name_of};
 ghost use Rattle.intel_wide.specs.ArithmeticRows.{arithmetic_row, arithmetic_rows};
@@ -11,7 +11,7 @@ use intel_forms::Size::Ymm;
 use intel_lanes::blocks::Two;
 use intel_lanes::lanes::Lane2;
 use intel_lanes::lanes::Width::{Byte, Dword, Qword, Word};
-use row_names::{form_of_row, name_of_row, names_and_rows, row_named};
+use row_names::{form_of_row, name_of_row, names_and_rows, row_at, row_named};
 
 /// The rows of the group, named after the intrinsics.
 #[derive(Clone, Copy, Debug, PartialEq, Eq)]
@@ -84,6 +84,22 @@ macro_rules! group {
 }
 
 static ROWS: &[(&str, WideOp)] = group!(names_and_rows WideOp);
+
+#[tactic(auto, unfolding(crate::specs::ArithmeticRows::arithmetic_rows))]
+pub fn count() -> usize
+    ensures value { result ≡ length arithmetic_rows }
+    ensures few { result < 33 }
+{
+    ROWS.len()
+}
+
+#[tactic(auto, unfolding(crate::specs::ArithmeticRows::arithmetic_rows))]
+pub fn at(k: usize) -> WideOp
+    requires { k < length arithmetic_rows }
+    ensures { drop k arithmetic_rows ≡ result ∷ drop (k + 1) arithmetic_rows }
+{
+    row_at(ROWS, k)
+}
 
 pub fn find(name: &[u8]) -> Option<WideOp>
     ensures { result ≡ first_named name_of arithmetic_rows name.now }

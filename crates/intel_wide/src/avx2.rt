@@ -1,6 +1,6 @@
 //! The rows of AVX2 on 16 bytes.
 
-ghost use Rattle.std.specs.Prelude.{◌≡◌};
+ghost use Rattle.std.specs.Prelude.{◌≡◌, ◌<◌, ◌+◌, ◌∷◌, drop, length};
 ghost use Rattle.row_names.specs.Groups.{first_named};
 ghost use Rattle.intel_wide.specs.Named.{name_of};
 ghost use Rattle.intel_wide.specs.Avx2Rows.{avx2_row, avx2_rows};
@@ -12,7 +12,7 @@ use intel_forms::memory::{Indexing, Memory};
 use intel_lanes::blocks::{Two, TwoImm};
 use intel_lanes::lanes::Width::{Byte, Dword, Qword, Word};
 use intel_lanes::lanes::{Lane2, Shift};
-use row_names::{form_of_row, name_of_row, names_and_rows, row_named};
+use row_names::{form_of_row, name_of_row, names_and_rows, row_at, row_named};
 
 /// The rows of the group, named after the intrinsics.
 #[derive(Clone, Copy, Debug, PartialEq, Eq)]
@@ -73,6 +73,22 @@ macro_rules! group {
 }
 
 static ROWS: &[(&str, WideOp)] = group!(names_and_rows WideOp);
+
+#[tactic(auto, unfolding(crate::specs::Avx2Rows::avx2_rows))]
+pub fn count() -> usize
+    ensures value { result ≡ length avx2_rows }
+    ensures few { result < 33 }
+{
+    ROWS.len()
+}
+
+#[tactic(auto, unfolding(crate::specs::Avx2Rows::avx2_rows))]
+pub fn at(k: usize) -> WideOp
+    requires { k < length avx2_rows }
+    ensures { drop k avx2_rows ≡ result ∷ drop (k + 1) avx2_rows }
+{
+    row_at(ROWS, k)
+}
 
 pub fn find(name: &[u8]) -> Option<WideOp>
     ensures { result ≡ first_named name_of avx2_rows name.now }

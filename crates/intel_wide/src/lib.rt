@@ -1,10 +1,19 @@
 //! The Intel rows on 32 bytes and those of AVX2 on 16: their names, forms and values, by the Intel Intrinsics Guide.
 #![tactic(auto)]
 
-ghost use Rattle.std.specs.Prelude.{◌≡◌};
+ghost use Rattle.std.specs.Prelude.{◌≡◌, ◌<◌, ◌+◌, ◌∷◌, ◌++◌, drop, length};
 ghost use Rattle.intel_forms.specs.Forms.{value_of};
 ghost use Rattle.intel_wide.specs.Named.{name_of, form_of};
-ghost use Rattle.intel_wide.specs.Rows.{find_of};
+ghost use Rattle.intel_wide.specs.Rows.{rows, find_of};
+ghost use Rattle.intel_wide.specs.Avx2Rows.{avx2_rows};
+ghost use Rattle.intel_wide.specs.ArithmeticRows.{arithmetic_rows};
+ghost use Rattle.intel_wide.specs.MoreArithmeticRows.{more_arithmetic_rows};
+ghost use Rattle.intel_wide.specs.LogicRows.{logic_rows};
+ghost use Rattle.intel_wide.specs.ShiftsRows.{shifts_rows};
+ghost use Rattle.intel_wide.specs.MovesRows.{moves_rows};
+ghost use Rattle.intel_wide.specs.CrossingRows.{crossing_rows};
+ghost use Rattle.intel_wide.specs.ScalarsRows.{scalars_rows};
+ghost use Rattle.intel_wide.specs.LoadsRows.{loads_rows};
 
 pub mod arithmetic;
 pub mod avx2;
@@ -50,6 +59,142 @@ pub fn find(name: &[u8]) -> Option<WideOp>
     let found = arithmetic::find(name).or(found);
     let found = avx2::find(name).or(found);
     found
+}
+
+/// How many rows the list has.
+pub fn count() -> usize
+    ensures value { result ≡ length rows }
+    ensures few { result < 1024 }
+{
+    avx2::count()
+        + arithmetic::count()
+        + more_arithmetic::count()
+        + logic::count()
+        + shifts::count()
+        + moves::count()
+        + crossing::count()
+        + scalars::count()
+        + loads::count()
+}
+
+/// Row `k` of the list, counted from 0.
+pub fn at(k: usize) -> WideOp
+    requires { k < length rows }
+    ensures { drop k rows ≡ result ∷ drop (k + 1) rows }
+{
+    from_avx2(k)
+}
+
+/// Row `k` of the groups from `avx2` on.
+#[tactic(auto, using(row_names::proofs::Listed::in_first, row_names::proofs::Listed::behind_first))]
+fn from_avx2(k: usize) -> WideOp
+    requires { k < length (avx2_rows ++ (arithmetic_rows ++ (more_arithmetic_rows ++ (logic_rows ++ (shifts_rows ++ (moves_rows ++ (crossing_rows ++ (scalars_rows ++ loads_rows)))))))) }
+    ensures { drop k (avx2_rows ++ (arithmetic_rows ++ (more_arithmetic_rows ++ (logic_rows ++ (shifts_rows ++ (moves_rows ++ (crossing_rows ++ (scalars_rows ++ loads_rows)))))))) ≡ result ∷ drop (k + 1) (avx2_rows ++ (arithmetic_rows ++ (more_arithmetic_rows ++ (logic_rows ++ (shifts_rows ++ (moves_rows ++ (crossing_rows ++ (scalars_rows ++ loads_rows)))))))) }
+{
+    let first = avx2::count();
+    if k < first {
+        avx2::at(k)
+    } else {
+        from_arithmetic(k - first)
+    }
+}
+
+/// Row `k` of the groups from `arithmetic` on.
+#[tactic(auto, using(row_names::proofs::Listed::in_first, row_names::proofs::Listed::behind_first))]
+fn from_arithmetic(k: usize) -> WideOp
+    requires { k < length (arithmetic_rows ++ (more_arithmetic_rows ++ (logic_rows ++ (shifts_rows ++ (moves_rows ++ (crossing_rows ++ (scalars_rows ++ loads_rows))))))) }
+    ensures { drop k (arithmetic_rows ++ (more_arithmetic_rows ++ (logic_rows ++ (shifts_rows ++ (moves_rows ++ (crossing_rows ++ (scalars_rows ++ loads_rows))))))) ≡ result ∷ drop (k + 1) (arithmetic_rows ++ (more_arithmetic_rows ++ (logic_rows ++ (shifts_rows ++ (moves_rows ++ (crossing_rows ++ (scalars_rows ++ loads_rows))))))) }
+{
+    let first = arithmetic::count();
+    if k < first {
+        arithmetic::at(k)
+    } else {
+        from_more_arithmetic(k - first)
+    }
+}
+
+/// Row `k` of the groups from `more_arithmetic` on.
+#[tactic(auto, using(row_names::proofs::Listed::in_first, row_names::proofs::Listed::behind_first))]
+fn from_more_arithmetic(k: usize) -> WideOp
+    requires { k < length (more_arithmetic_rows ++ (logic_rows ++ (shifts_rows ++ (moves_rows ++ (crossing_rows ++ (scalars_rows ++ loads_rows)))))) }
+    ensures { drop k (more_arithmetic_rows ++ (logic_rows ++ (shifts_rows ++ (moves_rows ++ (crossing_rows ++ (scalars_rows ++ loads_rows)))))) ≡ result ∷ drop (k + 1) (more_arithmetic_rows ++ (logic_rows ++ (shifts_rows ++ (moves_rows ++ (crossing_rows ++ (scalars_rows ++ loads_rows)))))) }
+{
+    let first = more_arithmetic::count();
+    if k < first {
+        more_arithmetic::at(k)
+    } else {
+        from_logic(k - first)
+    }
+}
+
+/// Row `k` of the groups from `logic` on.
+#[tactic(auto, using(row_names::proofs::Listed::in_first, row_names::proofs::Listed::behind_first))]
+fn from_logic(k: usize) -> WideOp
+    requires { k < length (logic_rows ++ (shifts_rows ++ (moves_rows ++ (crossing_rows ++ (scalars_rows ++ loads_rows))))) }
+    ensures { drop k (logic_rows ++ (shifts_rows ++ (moves_rows ++ (crossing_rows ++ (scalars_rows ++ loads_rows))))) ≡ result ∷ drop (k + 1) (logic_rows ++ (shifts_rows ++ (moves_rows ++ (crossing_rows ++ (scalars_rows ++ loads_rows))))) }
+{
+    let first = logic::count();
+    if k < first {
+        logic::at(k)
+    } else {
+        from_shifts(k - first)
+    }
+}
+
+/// Row `k` of the groups from `shifts` on.
+#[tactic(auto, using(row_names::proofs::Listed::in_first, row_names::proofs::Listed::behind_first))]
+fn from_shifts(k: usize) -> WideOp
+    requires { k < length (shifts_rows ++ (moves_rows ++ (crossing_rows ++ (scalars_rows ++ loads_rows)))) }
+    ensures { drop k (shifts_rows ++ (moves_rows ++ (crossing_rows ++ (scalars_rows ++ loads_rows)))) ≡ result ∷ drop (k + 1) (shifts_rows ++ (moves_rows ++ (crossing_rows ++ (scalars_rows ++ loads_rows)))) }
+{
+    let first = shifts::count();
+    if k < first {
+        shifts::at(k)
+    } else {
+        from_moves(k - first)
+    }
+}
+
+/// Row `k` of the groups from `moves` on.
+#[tactic(auto, using(row_names::proofs::Listed::in_first, row_names::proofs::Listed::behind_first))]
+fn from_moves(k: usize) -> WideOp
+    requires { k < length (moves_rows ++ (crossing_rows ++ (scalars_rows ++ loads_rows))) }
+    ensures { drop k (moves_rows ++ (crossing_rows ++ (scalars_rows ++ loads_rows))) ≡ result ∷ drop (k + 1) (moves_rows ++ (crossing_rows ++ (scalars_rows ++ loads_rows))) }
+{
+    let first = moves::count();
+    if k < first {
+        moves::at(k)
+    } else {
+        from_crossing(k - first)
+    }
+}
+
+/// Row `k` of the groups from `crossing` on.
+#[tactic(auto, using(row_names::proofs::Listed::in_first, row_names::proofs::Listed::behind_first))]
+fn from_crossing(k: usize) -> WideOp
+    requires { k < length (crossing_rows ++ (scalars_rows ++ loads_rows)) }
+    ensures { drop k (crossing_rows ++ (scalars_rows ++ loads_rows)) ≡ result ∷ drop (k + 1) (crossing_rows ++ (scalars_rows ++ loads_rows)) }
+{
+    let first = crossing::count();
+    if k < first {
+        crossing::at(k)
+    } else {
+        from_scalars(k - first)
+    }
+}
+
+/// Row `k` of the groups from `scalars` on.
+#[tactic(auto, using(row_names::proofs::Listed::in_first, row_names::proofs::Listed::behind_first))]
+fn from_scalars(k: usize) -> WideOp
+    requires { k < length (scalars_rows ++ loads_rows) }
+    ensures { drop k (scalars_rows ++ loads_rows) ≡ result ∷ drop (k + 1) (scalars_rows ++ loads_rows) }
+{
+    let first = scalars::count();
+    if k < first {
+        scalars::at(k)
+    } else {
+        loads::at(k - first)
+    }
 }
 
 /// The row's name.

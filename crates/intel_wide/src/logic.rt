@@ -1,6 +1,6 @@
 //! The rows on 32 bytes that compute with bits, and compares.
 
-ghost use Rattle.std.specs.Prelude.{◌≡◌};
+ghost use Rattle.std.specs.Prelude.{◌≡◌, ◌<◌, ◌+◌, ◌∷◌, drop, length};
 ghost use Rattle.row_names.specs.Groups.{first_named};
 ghost use Rattle.intel_wide.specs.Named.{name_of};
 ghost use Rattle.intel_wide.specs.LogicRows.{logic_row, logic_rows};
@@ -11,7 +11,7 @@ use intel_forms::Size::Ymm;
 use intel_lanes::blocks::Two;
 use intel_lanes::lanes::Lane2;
 use intel_lanes::lanes::Width::{Byte, Dword, Qword, Word};
-use row_names::{form_of_row, name_of_row, names_and_rows, row_named};
+use row_names::{form_of_row, name_of_row, names_and_rows, row_at, row_named};
 
 /// The rows of the group, named after the intrinsics.
 #[derive(Clone, Copy, Debug, PartialEq, Eq)]
@@ -52,6 +52,22 @@ macro_rules! group {
 }
 
 static ROWS: &[(&str, WideOp)] = group!(names_and_rows WideOp);
+
+#[tactic(auto, unfolding(crate::specs::LogicRows::logic_rows))]
+pub fn count() -> usize
+    ensures value { result ≡ length logic_rows }
+    ensures few { result < 33 }
+{
+    ROWS.len()
+}
+
+#[tactic(auto, unfolding(crate::specs::LogicRows::logic_rows))]
+pub fn at(k: usize) -> WideOp
+    requires { k < length logic_rows }
+    ensures { drop k logic_rows ≡ result ∷ drop (k + 1) logic_rows }
+{
+    row_at(ROWS, k)
+}
 
 pub fn find(name: &[u8]) -> Option<WideOp>
     ensures { result ≡ first_named name_of logic_rows name.now }

@@ -1,6 +1,6 @@
 //! The rows on 32 bytes that compute with numbers as SSSE3's and SSE4.1's do.
 
-ghost use Rattle.std.specs.Prelude.{◌≡◌};
+ghost use Rattle.std.specs.Prelude.{◌≡◌, ◌<◌, ◌+◌, ◌∷◌, drop, length};
 ghost use Rattle.row_names.specs.Groups.{first_named};
 ghost use Rattle.intel_wide.specs.Named.{name_of};
 ghost use Rattle.intel_wide.specs.MoreArithmeticRows.{more_arithmetic_row, more_arithmetic_rows};
@@ -11,7 +11,7 @@ use intel_forms::Size::Ymm;
 use intel_lanes::blocks::{One, Two, TwoImm};
 use intel_lanes::lanes::Width::{Byte, Dword, Word};
 use intel_lanes::lanes::{Lane1, Lane2};
-use row_names::{form_of_row, name_of_row, names_and_rows, row_named};
+use row_names::{form_of_row, name_of_row, names_and_rows, row_at, row_named};
 
 /// The rows of the group, named after the intrinsics.
 #[derive(Clone, Copy, Debug, PartialEq, Eq)]
@@ -78,6 +78,22 @@ macro_rules! group {
 }
 
 static ROWS: &[(&str, WideOp)] = group!(names_and_rows WideOp);
+
+#[tactic(auto, unfolding(crate::specs::MoreArithmeticRows::more_arithmetic_rows))]
+pub fn count() -> usize
+    ensures value { result ≡ length more_arithmetic_rows }
+    ensures few { result < 33 }
+{
+    ROWS.len()
+}
+
+#[tactic(auto, unfolding(crate::specs::MoreArithmeticRows::more_arithmetic_rows))]
+pub fn at(k: usize) -> WideOp
+    requires { k < length more_arithmetic_rows }
+    ensures { drop k more_arithmetic_rows ≡ result ∷ drop (k + 1) more_arithmetic_rows }
+{
+    row_at(ROWS, k)
+}
 
 pub fn find(name: &[u8]) -> Option<WideOp>
     ensures { result ≡ first_named name_of more_arithmetic_rows name.now }

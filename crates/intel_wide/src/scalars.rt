@@ -1,6 +1,6 @@
 //! The rows on 32 bytes that take or give integers.
 
-ghost use Rattle.std.specs.Prelude.{◌≡◌};
+ghost use Rattle.std.specs.Prelude.{◌≡◌, ◌<◌, ◌+◌, ◌∷◌, drop, length};
 ghost use Rattle.row_names.specs.Groups.{first_named};
 ghost use Rattle.intel_wide.specs.Named.{name_of};
 ghost use Rattle.intel_wide.specs.ScalarsRows.{scalars_row, scalars_rows};
@@ -10,7 +10,7 @@ use intel_forms::Form;
 use intel_forms::Size::Ymm;
 use intel_forms::scalars::{Scalar, Test};
 use intel_lanes::lanes::Width::{Byte, Dword, Qword, Word};
-use row_names::{form_of_row, name_of_row, names_and_rows, row_named};
+use row_names::{form_of_row, name_of_row, names_and_rows, row_at, row_named};
 
 /// The rows of the group, named after the intrinsics.
 #[derive(Clone, Copy, Debug, PartialEq, Eq)]
@@ -77,6 +77,22 @@ macro_rules! group {
 }
 
 static ROWS: &[(&str, WideOp)] = group!(names_and_rows WideOp);
+
+#[tactic(auto, unfolding(crate::specs::ScalarsRows::scalars_rows))]
+pub fn count() -> usize
+    ensures value { result ≡ length scalars_rows }
+    ensures few { result < 33 }
+{
+    ROWS.len()
+}
+
+#[tactic(auto, unfolding(crate::specs::ScalarsRows::scalars_rows))]
+pub fn at(k: usize) -> WideOp
+    requires { k < length scalars_rows }
+    ensures { drop k scalars_rows ≡ result ∷ drop (k + 1) scalars_rows }
+{
+    row_at(ROWS, k)
+}
 
 pub fn find(name: &[u8]) -> Option<WideOp>
     ensures { result ≡ first_named name_of scalars_rows name.now }

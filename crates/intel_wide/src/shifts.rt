@@ -1,6 +1,6 @@
 //! The rows on 32 bytes that shift.
 
-ghost use Rattle.std.specs.Prelude.{◌≡◌};
+ghost use Rattle.std.specs.Prelude.{◌≡◌, ◌<◌, ◌+◌, ◌∷◌, drop, length};
 ghost use Rattle.row_names.specs.Groups.{first_named};
 ghost use Rattle.intel_wide.specs.Named.{name_of};
 ghost use Rattle.intel_wide.specs.ShiftsRows.{shifts_row, shifts_rows};
@@ -11,7 +11,7 @@ use intel_forms::Size::Ymm;
 use intel_lanes::blocks::{OneImm, Two};
 use intel_lanes::lanes::Width::{Dword, Qword, Word};
 use intel_lanes::lanes::{Lane2, Shift};
-use row_names::{form_of_row, name_of_row, names_and_rows, row_named};
+use row_names::{form_of_row, name_of_row, names_and_rows, row_at, row_named};
 
 /// The rows of the group, named after the intrinsics.
 #[derive(Clone, Copy, Debug, PartialEq, Eq)]
@@ -70,6 +70,22 @@ macro_rules! group {
 }
 
 static ROWS: &[(&str, WideOp)] = group!(names_and_rows WideOp);
+
+#[tactic(auto, unfolding(crate::specs::ShiftsRows::shifts_rows))]
+pub fn count() -> usize
+    ensures value { result ≡ length shifts_rows }
+    ensures few { result < 33 }
+{
+    ROWS.len()
+}
+
+#[tactic(auto, unfolding(crate::specs::ShiftsRows::shifts_rows))]
+pub fn at(k: usize) -> WideOp
+    requires { k < length shifts_rows }
+    ensures { drop k shifts_rows ≡ result ∷ drop (k + 1) shifts_rows }
+{
+    row_at(ROWS, k)
+}
 
 pub fn find(name: &[u8]) -> Option<WideOp>
     ensures { result ≡ first_named name_of shifts_rows name.now }
