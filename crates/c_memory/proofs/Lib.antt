@@ -3,3 +3,4 @@ pub mod Ends
 pub mod Definedness
 pub mod Examples
 pub mod Continued
+pub mod Braces
