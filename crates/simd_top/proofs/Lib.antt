@@ -5,6 +5,7 @@ mod BothRuns
 mod Conjunction
 mod Excluded
 mod Expressions
+mod FirstRun
 mod FreeNames
 mod Fronts
 mod Good
