@@ -4,3 +4,5 @@ pub mod Definedness
 pub mod Examples
 pub mod Continued
 pub mod Braces
+pub mod Memories
+pub mod Matched

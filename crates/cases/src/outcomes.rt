@@ -4,6 +4,7 @@ use crate::reading::{put, read};
 use c_meaning::run;
 use c_memory::{
     Block, BlockList, ByteList, Memory, Outcome, Pointer, Value, braces_change_nothing,
+    matching_arguments_are_determined, memories_are_of_bytes,
 };
 use c_text::Dialect;
 use intel_table::X86Rows;
@@ -232,6 +233,8 @@ fn agree(rt: &impl Abort, alloc: Global, rows: &str) -> Result<(), Fail> {
 #[test]
 fn units_answer_by_the_standard(rt: HostRuntime) -> Result<(), Fail> {
     braces_change_nothing();
+    matching_arguments_are_determined();
+    memories_are_of_bytes();
     agree(&rt, rt.alloc(), EXPRESSIONS)?;
     agree(&rt, rt.alloc(), STATEMENTS)
 }

@@ -10,6 +10,7 @@ mod FreeNames
 mod Fronts
 mod Good
 mod Headings
+mod IncludesRead
 mod Lines
 mod Moved
 mod NamesSeen
