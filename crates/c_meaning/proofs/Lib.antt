@@ -4,5 +4,4 @@ pub mod Turns
 pub mod Same
 pub mod Ends
 pub mod Units
-pub mod Halves
 pub mod Made

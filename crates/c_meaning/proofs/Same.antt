@@ -9,7 +9,7 @@ use Rattle.c_memory.specs.declared.value.Value.{Value}
 use Rattle.c_memory.specs.MeaningState.{Binding, ◌>>=◌, ◌>>◌, pure, scoped, then_do}
 use Rattle.c_memory.specs.Meaning as meaning
 use Rattle.c_memory.specs.Meaning.{Calls, Later, no_more, condition, expression, choose, on_next, loops, loops_after, with_step, optional_condition, optional_value, spend_for, back_to, result}
-use Rattle.c_meaning.specs.Flagged.{declare, declare_one, act, optional_act, sequence, after_start, begin_parameter, begin_parameters, call_of, with_function, outermost}
+use Rattle.c_meaning.specs.Flagged.{declare, declare_one, act, optional_act, optional_body, sequence, after_start, begin_parameter, begin_parameters, call_of, with_function, outermost}
 use Rattle.c_meaning.specs.Marked.{marked}
 
 declare_same : (all : List Object) (later : Later) (c : Calls) → declare all (taken_objects all later) c ≡ meaning.declare all later c
@@ -27,16 +27,16 @@ mutual
   act_same (Run e) later rest c = refl
   act_same (Block all) later rest c = ap scoped (sequence_same all c)
   act_same (If e s o) later rest c =
-      ap (λ p. condition (expression e c) >>= (λ v. choose v p (optional_act o (taken_optional o no_more NoParts) c))) (act_same s no_more (taken_optional o no_more NoParts) c)
-      ∙ ap (λ p. condition (expression e c) >>= (λ v. choose v (meaning.act s no_more c) p)) (optional_same o no_more NoParts c)
-  act_same (While e s) later rest c = ap (λ p t. loops t.left (condition (expression e c)) p t) (act_same s no_more NoParts c)
-  act_same (DoWhile s e) later rest c = ap (λ p t. loops_after t.left (condition (expression e c)) p t) (act_same s no_more NoParts c)
+      ap (λ p. condition (expression e c) >>= (λ v. choose v (scoped p) (optional_body o (taken_optional o no_more NoParts) c))) (act_same s no_more (taken_optional o no_more NoParts) c)
+      ∙ ap (λ p. condition (expression e c) >>= (λ v. choose v (scoped (meaning.act s no_more c)) p)) (body_same o NoParts c)
+  act_same (While e s) later rest c = ap (λ p t. loops t.left (condition (expression e c)) (scoped p) t) (act_same s no_more NoParts c)
+  act_same (DoWhile s e) later rest c = ap (λ p t. loops_after t.left (condition (expression e c)) (scoped p) t) (act_same s no_more NoParts c)
   act_same (For i e n s) later rest c =
       let behind = λ (x : List ℕ). takes_optional x e || (takes_optional x n || takes_statement x s) in
       let body = Part (taken_statement s no_more) NoParts in
-      ap (λ p. scoped (p >> (λ t. loops t.left (optional_condition e c) (with_step (act s (after_start i (taken_optional i behind body)) c) (optional_value n c)) t))) (optional_same i behind body c)
-      ∙ ap (λ trees. scoped (meaning.optional_act i behind c >> (λ t. loops t.left (optional_condition e c) (with_step (act s trees c) (optional_value n c)) t))) (after_same i behind body)
-      ∙ ap (λ p. scoped (meaning.optional_act i behind c >> (λ t. loops t.left (optional_condition e c) (with_step p (optional_value n c)) t))) (act_same s no_more NoParts c)
+      ap (λ p. scoped (p >> (λ t. loops t.left (optional_condition e c) (with_step (scoped (act s (after_start i (taken_optional i behind body)) c)) (optional_value n c)) t))) (optional_same i behind body c)
+      ∙ ap (λ trees. scoped (meaning.optional_act i behind c >> (λ t. loops t.left (optional_condition e c) (with_step (scoped (act s trees c)) (optional_value n c)) t))) (after_same i behind body)
+      ∙ ap (λ p. scoped (meaning.optional_act i behind c >> (λ t. loops t.left (optional_condition e c) (with_step (scoped p) (optional_value n c)) t))) (act_same s no_more NoParts c)
   act_same (Break p) later rest c = refl
   act_same (Continue p) later rest c = refl
   act_same (Return p e) later rest c = refl
@@ -45,6 +45,10 @@ mutual
   optional_same : (o : Optional) (later : Later) (more : TakenTrees) (c : Calls) → optional_act o (taken_optional o later more) c ≡ meaning.optional_act o later c
   optional_same Absent later more c = refl
   optional_same (Present s) later more c = act_same s later more c
+
+  body_same : (o : Optional) (more : TakenTrees) (c : Calls) → optional_body o (taken_optional o no_more more) c ≡ meaning.optional_body o c
+  body_same Absent more c = refl
+  body_same (Present s) more c = ap scoped (act_same s no_more more c)
 
   sequence_same : (all : Statements) (c : Calls) → sequence all (taken_statements all) c ≡ meaning.sequence all c
   sequence_same NoStatements c = refl

@@ -53,12 +53,12 @@ abbrev mutual
   act (Declare all) trees c = declare all (flags_of trees) c >> pure Next
   act (Run e) trees c = expression e c >> pure Next
   act (Block all) trees c = scoped (sequence all (parts_of trees) c)
-  act (If e s o) trees c = condition (expression e c) >>= (λ v. choose v (act s (parts_of trees) c) (optional_act o (rest_of (parts_of trees)) c))
-  act (While e s) trees c = λ t. loops t.left (condition (expression e c)) (act s (parts_of trees) c) t
-  act (DoWhile s e) trees c = λ t. loops_after t.left (condition (expression e c)) (act s (parts_of trees) c) t
+  act (If e s o) trees c = condition (expression e c) >>= (λ v. choose v (scoped (act s (parts_of trees) c)) (optional_body o (rest_of (parts_of trees)) c))
+  act (While e s) trees c = λ t. loops t.left (condition (expression e c)) (scoped (act s (parts_of trees) c)) t
+  act (DoWhile s e) trees c = λ t. loops_after t.left (condition (expression e c)) (scoped (act s (parts_of trees) c)) t
   act (For i e n s) trees c =
       scoped (optional_act i (parts_of trees) c
-      >> (λ t. loops t.left (optional_condition e c) (with_step (act s (after_start i (parts_of trees)) c) (optional_value n c)) t))
+      >> (λ t. loops t.left (optional_condition e c) (with_step (scoped (act s (after_start i (parts_of trees)) c)) (optional_value n c)) t))
   act (Break p) trees c = pure Broke
   act (Continue p) trees c = pure Continued
   act (Return p e) trees c = returned e c
@@ -67,6 +67,11 @@ abbrev mutual
   pub optional_act : Optional → TakenTrees → Acts
   optional_act Absent trees c = pure Next
   optional_act (Present s) trees c = act s trees c
+
+  -- the body of an `else`
+  pub optional_body : Optional → TakenTrees → Acts
+  optional_body Absent trees c = pure Next
+  optional_body (Present s) trees c = scoped (act s trees c)
 
   -- statements in a row
   pub sequence : Statements → TakenTrees → Acts

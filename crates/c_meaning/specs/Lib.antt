@@ -6,4 +6,3 @@ pub mod Weights
 pub mod Callees
 pub mod Marked
 pub mod Ended
-pub mod Halves

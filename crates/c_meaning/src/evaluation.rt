@@ -2,15 +2,14 @@
 
 ghost use Rattle.std.specs.Prelude.{◌≡◌, None, map, option_map};
 ghost use Rattle.c_tree.specs.View.{view, views, view_declared, view_stmt, view_stmts, view_optional};
-ghost use Rattle.c_tree.specs.Tree.{Half};
 ghost use Rattle.address_taken.specs.Taken.{seen_all};
-ghost use Rattle.c_memory.specs.Meaning.{condition, expression, kind_expression, its_value, target, last, values, loops, loops_after, with_step, optional_condition, optional_value, initialised};
+ghost use Rattle.c_memory.specs.MeaningState.{scoped};
+ghost use Rattle.c_memory.specs.Meaning.{condition, expression, name_in, half_expression, its_value, target, last, values, loops, loops_after, with_step, optional_condition, optional_value, initialised};
 ghost use Rattle.c_meaning.specs.Seen.{seen_objects};
-ghost use Rattle.c_meaning.specs.Halves.{name_in, half_expression};
 ghost use Rattle.c_meaning.specs.States.{seen_state, seen_target};
 ghost use Rattle.c_meaning.specs.Answers.{Answers, Shows};
 ghost use Rattle.c_meaning.specs.Callees.{seen_callee, seen_flow, calls_at};
-ghost use Rattle.c_meaning.specs.Flagged.{parts_of, declare, act, optional_act, sequence, call_of, body_of};
+ghost use Rattle.c_meaning.specs.Flagged.{parts_of, declare, act, optional_act, optional_body, sequence, call_of, body_of};
 
 use crate::beginnings::is_block;
 use crate::calls::{Callee, Environment, Flow, last_called};
@@ -116,7 +115,7 @@ fn expression<'a, R: Rows>(
             let given = values(env, n, state, all.as_slice())?;
             call(env, n, state, f.bytes(), given.as_slice())
         }
-        ExprKind::Half(a, k) => half_of_pair(env, n, state, e.ty, a, *k),
+        ExprKind::Half(a, k) => half(env, n, state, a, *k),
         ExprKind::PairOf(a, b) => {
             let v = value(env, n, state, a)?;
             let w = value(env, n, state, b)?;
@@ -162,21 +161,6 @@ fn holds<'a, R: Rows>(
 {
     let v = value(env, n, state, e)?;
     operators::holds(&state.memory, v).ok_or(Stop::Undefined)
-}
-
-/// Half of a pair, as an expression of a type. The type doesn't matter.
-#[cycle(run)]
-fn half_of_pair<'a, R: Rows>(
-    env: &Environment<'a, '_, R>,
-    n: usize,
-    state: &mut State<'a>,
-    _ty: CType,
-    e: &'a Expr,
-    k: u8,
-) -> Result<Option<Value>, Stop>
-    ensures { Answers (kind_expression _ty (Half (view e.now) k) (calls_at env.now.tables R.row_call env.now.callees.items n) (seen_state state.old)) result state.new }
-{
-    half(env, n, state, e, k)
 }
 
 /// Half of a pair: of an object apart from memory, or of a value.
@@ -372,9 +356,9 @@ fn act<'a, R: Rows>(
         Stmt::If(c, s, other) => {
             let parts = parts_of(taken);
             if holds(env, n, state, c)? {
-                act(env, n, state, s, parts)
+                in_scope(env, n, state, s, parts)
             } else {
-                optional_act(env, n, state, other, rest_of(parts))
+                optional_body(env, n, state, other, rest_of(parts))
             }
         }
         Stmt::While(c, s) => while_loop(env, n, state, c, s, taken),
@@ -413,6 +397,41 @@ fn optional_act<'a, R: Rows>(
     match s {
         None => Ok(Flow::Next),
         Some(s) => act(env, n, state, s, taken),
+    }
+}
+
+/// What a body does: a statement in a scope of its own. The first of `taken` is the statement's.
+#[cycle(run)]
+fn in_scope<'a, R: Rows>(
+    env: &Environment<'a, '_, R>,
+    n: usize,
+    state: &mut State<'a>,
+    s: &'a Stmt,
+    taken: &[Taken],
+) -> Result<Flow, Stop>
+    ensures { Shows seen_flow (scoped (act (view_stmt s.now) (seen_all taken.now) (calls_at env.now.tables R.row_call env.now.callees.items n)) (seen_state state.old)) result state.new }
+{
+    let objects = state.objects.len();
+    let blocks = state.memory.blocks.len();
+    let flow = act(env, n, state, s, taken)?;
+    state.leave(objects, blocks);
+    Ok(flow)
+}
+
+/// What the body of an `else` does, which may be left out.
+#[cycle(run)]
+fn optional_body<'a, R: Rows>(
+    env: &Environment<'a, '_, R>,
+    n: usize,
+    state: &mut State<'a>,
+    s: &'a Option<Box<Stmt>>,
+    taken: &[Taken],
+) -> Result<Flow, Stop>
+    ensures { Shows seen_flow (optional_body (view_optional s.now) (seen_all taken.now) (calls_at env.now.tables R.row_call env.now.callees.items n) (seen_state state.old)) result state.new }
+{
+    match s {
+        None => Ok(Flow::Next),
+        Some(s) => in_scope(env, n, state, s, taken),
     }
 }
 
@@ -489,7 +508,7 @@ fn while_loop<'a, R: Rows>(
     taken: &[Taken],
 ) -> Result<Flow, Stop>
     ensures { let calls = calls_at env.now.tables R.row_call env.now.callees.items n in
-        Shows seen_flow (loops state.old.left (condition (expression (view c.now) calls)) (act (view_stmt s.now) (parts_of (seen_all taken.now)) calls) (seen_state state.old)) result state.new }
+        Shows seen_flow (loops state.old.left (condition (expression (view c.now) calls)) (scoped (act (view_stmt s.now) (parts_of (seen_all taken.now)) calls)) (seen_state state.old)) result state.new }
 {
     turns(env, n, state, c, s, parts_of(taken))
 }
@@ -505,7 +524,7 @@ fn do_loop<'a, R: Rows>(
     taken: &[Taken],
 ) -> Result<Flow, Stop>
     ensures { let calls = calls_at env.now.tables R.row_call env.now.callees.items n in
-        Shows seen_flow (loops_after state.old.left (condition (expression (view c.now) calls)) (act (view_stmt s.now) (parts_of (seen_all taken.now)) calls) (seen_state state.old)) result state.new }
+        Shows seen_flow (loops_after state.old.left (condition (expression (view c.now) calls)) (scoped (act (view_stmt s.now) (parts_of (seen_all taken.now)) calls)) (seen_state state.old)) result state.new }
 {
     turns_after(env, n, state, s, c, parts_of(taken))
 }
@@ -521,7 +540,7 @@ fn turns<'a, R: Rows>(
     taken: &[Taken],
 ) -> Result<Flow, Stop>
     ensures { let calls = calls_at env.now.tables R.row_call env.now.callees.items n in
-        Shows seen_flow (loops state.old.left (condition (expression (view c.now) calls)) (act (view_stmt s.now) (seen_all taken.now) calls) (seen_state state.old)) result state.new }
+        Shows seen_flow (loops state.old.left (condition (expression (view c.now) calls)) (scoped (act (view_stmt s.now) (seen_all taken.now) calls)) (seen_state state.old)) result state.new }
 {
     let mut most = state.left;
     loop {
@@ -534,7 +553,7 @@ fn turns<'a, R: Rows>(
         }
         most -= 1;
         state.spend()?;
-        match act(env, n, state, s, taken)? {
+        match in_scope(env, n, state, s, taken)? {
             Flow::Next | Flow::Continued => {}
             Flow::Broke => return Ok(Flow::Next),
             Flow::Returned(v) => return Ok(Flow::Returned(v)),
@@ -553,7 +572,7 @@ fn turns_after<'a, R: Rows>(
     taken: &[Taken],
 ) -> Result<Flow, Stop>
     ensures { let calls = calls_at env.now.tables R.row_call env.now.callees.items n in
-        Shows seen_flow (loops_after state.old.left (condition (expression (view c.now) calls)) (act (view_stmt s.now) (seen_all taken.now) calls) (seen_state state.old)) result state.new }
+        Shows seen_flow (loops_after state.old.left (condition (expression (view c.now) calls)) (scoped (act (view_stmt s.now) (seen_all taken.now) calls)) (seen_state state.old)) result state.new }
 {
     let mut most = state.left;
     loop {
@@ -562,7 +581,7 @@ fn turns_after<'a, R: Rows>(
         }
         most -= 1;
         state.spend()?;
-        match act(env, n, state, s, taken)? {
+        match in_scope(env, n, state, s, taken)? {
             Flow::Next | Flow::Continued => {}
             Flow::Broke => return Ok(Flow::Next),
             Flow::Returned(v) => return Ok(Flow::Returned(v)),
@@ -586,7 +605,7 @@ fn turns_with<'a, R: Rows>(
     taken: &[Taken],
 ) -> Result<Flow, Stop>
     ensures { let calls = calls_at env.now.tables R.row_call env.now.callees.items n in
-        Shows seen_flow (loops state.old.left (optional_condition (option_map view c.now) calls) (with_step (act (view_stmt s.now) (seen_all taken.now) calls) (optional_value (option_map view next.now) calls)) (seen_state state.old)) result state.new }
+        Shows seen_flow (loops state.old.left (optional_condition (option_map view c.now) calls) (with_step (scoped (act (view_stmt s.now) (seen_all taken.now) calls)) (optional_value (option_map view next.now) calls)) (seen_state state.old)) result state.new }
 {
     let mut most = state.left;
     loop {
@@ -599,7 +618,7 @@ fn turns_with<'a, R: Rows>(
         }
         most -= 1;
         state.spend()?;
-        match act(env, n, state, s, taken)? {
+        match in_scope(env, n, state, s, taken)? {
             Flow::Next | Flow::Continued => {}
             Flow::Broke => return Ok(Flow::Next),
             Flow::Returned(v) => return Ok(Flow::Returned(v)),

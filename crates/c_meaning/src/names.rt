@@ -2,7 +2,7 @@
 
 ghost use Rattle.std.specs.Prelude.{◌≡◌, option_map};
 ghost use Rattle.c_tree.specs.View.{view};
-ghost use Rattle.c_meaning.specs.Halves.{name_in};
+ghost use Rattle.c_memory.specs.Meaning.{name_in};
 
 use c_tree::{Expr, ExprKind};
 

@@ -132,12 +132,13 @@ fn end_all(blocks: &mut [Block])
 }
 
 impl Block {
-    /// Ends the block: it lives no more, and it has no bytes.
+    /// Ends the block: it lives no more, and it has no bytes and no room for any.
     pub fn end(&mut self)
         ensures { self.new ≡ ended self.old }
     {
         self.alive = false;
-        self.bytes.bytes.clear();
+        let alloc = *self.bytes.bytes.allocator();
+        self.bytes = ByteList::new(Vec::new(alloc));
     }
 
     /// Whether an access of `size` bytes at the offset may be made, as far as its place is concerned.

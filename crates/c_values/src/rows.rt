@@ -332,23 +332,25 @@ fn known_args(args: &[Arg])
     }
 }
 
-/// The row's formula for these arguments: the value that it gives, after its accesses are written.
+/// The row's formula for these arguments: the value that it gives, of the kind `gives`, after its accesses are written.
 fn applied<T: VectorTable>(
     table: &T,
     op: T::Op,
+    gives: ParamKind,
     imm: u16,
     at: Pointer,
     accesses: &[Access],
     memory: &mut Memory,
     args: &[Arg],
 ) -> Option<Option<Value>>
+    requires gives { gives ≡ (T.signature_of op).result }
     requires fit { Fits (T.signature_of op) args.now }
     requires immediate { InImmRange (T.range_of op) imm }
     ensures { Makes (row_applied (rows_of T.find_of T.signature_of T.range_of T.accesses_of T.access_of T.eval_of) op imm at accesses.now memory.old.blocks args.now) result memory.new.blocks }
 {
     let arg = table.eval(op, args, imm);
     match write_each(memory, at, bytes_of(&arg), accesses) {
-        Some(_) => Some(given(table.signature(op).result, arg)),
+        Some(_) => Some(given(gives, arg)),
         None => None,
     }
 }
@@ -358,24 +360,25 @@ fn made<T: VectorTable>(
     alloc: Global,
     table: &T,
     op: T::Op,
+    sig: &Sig,
     imm: u16,
     memory: &mut Memory,
     values: &[Value],
 ) -> Result<Option<Option<Value>>, AllocError>
+    requires signature { sig.now ≡ T.signature_of op }
     requires fit { IsTrue (fits_kinds (params_of (T.signature_of op)) values.now) }
     requires immediate { imm ≡ immediate (params_of (T.signature_of op)) values.now }
     requires range { IsTrue (is_in_range (T.range_of op) imm) }
     ensures { IfOk result (λ done. Makes (row_made (rows_of T.find_of T.signature_of T.range_of T.accesses_of T.access_of T.eval_of) op values.now memory.old.blocks) done memory.new.blocks) }
 {
-    let sig = table.signature(op);
     let at = pointer_among(values);
     let mut args = Vec::new(alloc);
-    push_arguments(&mut args, kinds_of(&sig), values)?;
+    push_arguments(&mut args, kinds_of(sig), values)?;
     let all = accesses(alloc, table, op, &args, imm)?;
-    match push_bytes_read(&mut args, &sig, memory, at, &all)? {
+    match push_bytes_read(&mut args, sig, memory, at, &all)? {
         Some(_) => {
             known_args(&args);
-            Ok(applied(table, op, imm, at, &all, memory, &args))
+            Ok(applied(table, op, sig.result, imm, at, &all, memory, &args))
         }
         None => Ok(None),
     }
@@ -399,7 +402,7 @@ pub fn row_call<T: VectorTable>(
         return Ok(None);
     }
     match in_range(table.range(op), immediate(kinds, values)) {
-        Some(imm) => made(alloc, table, op, imm, memory, values),
+        Some(imm) => made(alloc, table, op, &sig, imm, memory, values),
         None => Ok(None),
     }
 }

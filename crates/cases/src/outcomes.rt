@@ -2,7 +2,10 @@
 
 use crate::reading::{put, read};
 use c_meaning::run;
-use c_memory::{Block, BlockList, ByteList, Memory, Outcome, Pointer, Value};
+use c_memory::{
+    Block, BlockList, ByteList, Memory, Outcome, Pointer, Value, braces_change_nothing,
+    matching_arguments_are_determined, memories_are_of_bytes,
+};
 use c_text::Dialect;
 use intel_table::X86Rows;
 use neon_table::NeonRows;
@@ -78,7 +81,15 @@ const STATEMENTS: &str = "\
 0: int f(void) { int *p = 0; { int x = 2; p = &x; *p = 3; } return *p; } -> undefined
 0: int f(void) { int *p = 0; { int x = 2; p = &x; *p = 3; } return 1; } -> 1 w-
 0: int f(void) { int *p = 0; return *p; } -> undefined
+0: int f(void) { int x = 1; if (1) int x = 3; return x; } -> 1 w
+0: int f(void) { int x = 1; if (0) ; else int x = 3; return x; } -> 1 w
+0: int f(void) { int *p = 0; if (1) int x = 3, y = *(p = &x); return *p; } -> undefined
+0: int f(void) { if (1) int x[2] = {1, 2}; return 7; } -> 7 w-
 0: int f(void) { while (0) return 1; return 2; } -> 2 w
+1: int f(void) { int x = 1; while (x) int x = 0; return x; } -> turns
+3: int f(void) { int x = 0; do int x = 1; while (x); return 5; } -> 5 w
+2: int f(void) { int s = 0; for (int i = 0; i < 3; i++) int i = 9; return s; } -> turns
+3: int f(void) { int s = 0; for (int i = 0; i < 3; i++) int i = 9; return s; } -> 0 w
 0: int f(void) { int x = 0; while (x < 3) x++; return x; } -> turns
 2: int f(void) { int x = 0; while (x < 3) x++; return x; } -> turns
 3: int f(void) { int x = 0; while (x < 3) x++; return x; } -> 3 w
@@ -221,6 +232,9 @@ fn agree(rt: &impl Abort, alloc: Global, rows: &str) -> Result<(), Fail> {
 
 #[test]
 fn units_answer_by_the_standard(rt: HostRuntime) -> Result<(), Fail> {
+    braces_change_nothing();
+    matching_arguments_are_determined();
+    memories_are_of_bytes();
     agree(&rt, rt.alloc(), EXPRESSIONS)?;
     agree(&rt, rt.alloc(), STATEMENTS)
 }

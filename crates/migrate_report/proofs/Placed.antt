@@ -1,5 +1,5 @@
 -- What fits: the memory is one, and the arguments are of the parameters' types and point into it.
-use Rattle.std.proofs.Common.{◌≡◌, ◌∙◌, ℕ, zero, suc, ◌*◌, ◌<◌, ◌≤◌, ◌^◌, ◌⊎◌, inl, inr, Bool, true, false, Option, Some, None, Result, Ok, Err, List, [], ◌∷◌, ◌++◌, map, replicate, length, refl, sym, ap, subst, arith}
+use Rattle.std.proofs.Common.{◌≡◌, ◌∙◌, ℕ, zero, suc, ◌*◌, ◌<◌, ◌≤◌, ◌^◌, ◌⊎◌, inl, inr, Bool, true, false, Option, Some, None, Result, Ok, Err, List, [], ◌∷◌, ◌++◌, map, replicate, length, get_or, refl, sym, ap, subst, arith}
 use Rattle.std.specs.Prelude.{◌==◌, ◌&&◌, ◌||◌, not, nat_le, if◌then◌else◌, filter, IsTrue, IfSome, IfOk, Vec, option_map, slice_get, ℤ, pos, neg_ℤ, codes}
 use Rattle.std.specs.Option.{option_and_then}
 use Rattle.std.specs.Result.{result_ok}
@@ -22,11 +22,12 @@ use Rattle.c_memory.specs.declared.memory.Pointer.TheVariants as pointer
 use Rattle.c_memory.specs.declared.value.Value.{Value}
 use Rattle.c_memory.specs.declared.value.Value.TheVariants as values
 use Rattle.c_memory.specs.Defined.{IsAlignment}
-use Rattle.c_memory.specs.Values.{IsOfType, IsBlock, IsMemory, PointsInto, IsPlaced, AreArguments}
+use Rattle.c_memory.specs.Values.{IsOfType, AreBytes, IsBlock, IsMemory, PointsInto, IsPlaced, AreArguments}
 use Rattle.c_tree.specs.Tree.{Definition, External}
 use Rattle.migrate_report.specs.declared.fits.FitFail.{FitFail}
 use Rattle.migrate_report.specs.Items.{Item, Block, Space, Integer, Vector, At, Null, joined, single, cut, number_of, is_alignment, checked_alignment, alignment_of, writable_of, is_hex, block_of_fields, space_of_fields, integer_of, at_of_fields, item_of_kind, item_of_parts, item_of, items_of, is_number, value, is_vector, block_size, total_size, most_bytes, is_within, items_fit_form}
-use Rattle.migrate_report.specs.Fits.{set_block, block_with, block_given, blocks_of, reaches, pointer_at, integer_of_type, vector_of_type, pointer_of_type, argument, gives_argument, arguments, Fit, types_of, fitted, fit_memory, fit_items, function_named, fit_function, fitting, Answers}
+use Rattle.c_memory.specs.Functions.{types_of, function_named}
+use Rattle.migrate_report.specs.Fits.{set_block, block_with, block_given, blocks_of, reaches, pointer_at, integer_of_type, vector_of_type, pointer_of_type, argument, gives_argument, arguments, Fit, fitted, fit_memory, fit_items, fit_function, fitting, Answers}
 
 -- ---- what is said of the item that is there, if one is
 
@@ -150,8 +151,16 @@ are_aligned (word ∷ rest) items h =
 
 -- ---- the memory
 
-is_block : (align : ℕ) (writable : Bool) (bytes : List (Option ℕ)) → IsAlignment align → length bytes < 2 ^ 63 → IsBlock (block_with align writable bytes)
-is_block align writable bytes h small = record { size = small; align = h }
+is_block : (align : ℕ) (writable : Bool) (bytes : List (Option ℕ)) → IsAlignment align → length bytes < 2 ^ 63 → AreBytes bytes → IsBlock (block_with align writable bytes)
+is_block align writable bytes h small are = record { size = small; bytes = are; align = h }
+
+set_bytes : (bytes : List ℕ) → ((i : ℕ) → get_or bytes i 0 < 256) → AreBytes (map Some bytes)
+set_bytes [] h = tt
+set_bytes (b ∷ bs) h = (h 0, set_bytes bs (λ i. h (suc i)))
+
+unset_bytes : (count : ℕ) → AreBytes (replicate count None)
+unset_bytes zero = tt
+unset_bytes (suc n) = unset_bytes n
 
 abbrev AreBlocks : List MemoryBlock → Type 0
 AreBlocks [] = Unit {0}
@@ -168,14 +177,15 @@ given_blocks (Block align writable hex) bs h small e = from_bytes (decode_of hex
     from_bytes (Err x) f g = cc
     from_bytes (Ok bytes) f g =
         let made : bs ≡ set_block align writable bytes ∷ [] = cc in
-        let twice : length hex ≡ 2 * length bytes = (decode_of-ok hex bytes f).2 in
+        let all = decode_of-ok hex bytes f in
+        let twice : length hex ≡ 2 * length bytes = all.2 in
         let size : length (map Some bytes) < 2 ^ 63 = rw length-map (omega arith) in
-        subst AreBlocks (sym made) (is_block align writable (map Some bytes) h size, tt)
+        subst AreBlocks (sym made) (is_block align writable (map Some bytes) h size (set_bytes bytes all.3), tt)
 given_blocks (Space align count) bs h small e =
     let made : bs ≡ block_with align true (replicate count None) ∷ [] = cc in
     let unset : List (Option ℕ) = replicate count None in
     let size : length unset < 2 ^ 63 = rw length-replicate small in
-    subst AreBlocks (sym made) (is_block align true unset h size, tt)
+    subst AreBlocks (sym made) (is_block align true unset h size (unset_bytes count), tt)
 given_blocks (Integer z) bs h small e = let made : [] ≡ bs = cc in subst AreBlocks made tt
 given_blocks (Vector hex) bs h small e = let made : [] ≡ bs = cc in subst AreBlocks made tt
 given_blocks (At b o) bs h small e = let made : [] ≡ bs = cc in subst AreBlocks made tt

@@ -1,20 +1,19 @@
 -- Which arguments and which memory the items give a function of a unit.
-use Rattle.std.specs.Prelude.{◌≡◌, ℕ, List, [], ◌∷◌, length, map, filter, replicate, Bool, true, false, nat_le, if◌then◌else◌, Option, Some, None, option_map, slice_get, find, ℤ, Result, Ok, Err, Vec}
+use Rattle.std.specs.Prelude.{◌≡◌, ℕ, List, [], ◌∷◌, length, map, filter, replicate, Bool, true, false, nat_le, if◌then◌else◌, Option, Some, None, option_map, slice_get, ℤ, Result, Ok, Err, Vec}
 use Rattle.std.specs.declared.alloc.Global.{Global}
 use Rattle.std.specs.Result.{result_ok}
-use Rattle.std.specs.Str.{bytes_eq}
 use Rattle.hex.specs.Hex.{decode_of, decode_sized}
 use Rattle.scalar_core.specs.TwosComplement.{holds}
 use Rattle.scalar_core.specs.Numbers.{num_of}
 use Rattle.lane_core.specs.declared.number.IntType.{IntType}
 use Rattle.c_tree.specs.declared.types.CType.{CType}
-use Rattle.c_tree.specs.Tree.{Object, Definition, External}
+use Rattle.c_tree.specs.Tree.{Definition, External}
 use Rattle.c_memory.specs.declared.blocks.Block.{Block as MemoryBlock}
 use Rattle.c_memory.specs.declared.memory.Memory.{Memory}
 use Rattle.c_memory.specs.declared.memory.Pointer.TheVariants as pointer
 use Rattle.c_memory.specs.declared.value.Value.{Value}
 use Rattle.c_memory.specs.declared.value.Value.TheVariants as value
-use Rattle.c_memory.specs.Meaning.{functions}
+use Rattle.c_memory.specs.Functions.{types_of, function_named}
 use Rattle.migrate_report.specs.declared.fits.FitFail.{FitFail}
 use Rattle.migrate_report.specs.declared.fits.FitFail.TheVariants as fail
 use Rattle.migrate_report.specs.Items.{Item, Block, Space, Integer, Vector, At, Null, joined, single, items_of}
@@ -112,9 +111,6 @@ pub data Fitting : Type 0 where
   DontFit : Fitting
   Fit : List Value → List MemoryBlock → Fitting
 
-abbrev pub types_of : List Object → List CType
-types_of params = map (λ d. d.ty) params
-
 abbrev pub fitted : List MemoryBlock → Option (List Value) → Fitting
 fitted memory None = DontFit
 fitted memory (Some args) = Fit args memory
@@ -126,10 +122,6 @@ fit_memory types items (Some memory) = fitted memory (arguments memory types (fi
 abbrev pub fit_items : List CType → Option (List Item) → Fitting
 fit_items types None = DontFit
 fit_items types (Some items) = fit_memory types items (blocks_of items)
-
--- the first function of the name
-abbrev pub function_named : List ℕ → List External → Option Definition
-function_named name unit = find (λ f. bytes_eq name f.name) (functions unit)
 
 abbrev pub fit_function : Option Definition → List (List ℕ) → Fitting
 fit_function None words = NoFunction

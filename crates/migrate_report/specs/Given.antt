@@ -10,7 +10,8 @@ use Rattle.migrate_report.specs.declared.fits.FitFail.{FitFail}
 use Rattle.migrate_report.specs.declared.fits.FitFail.TheVariants as fail
 use Rattle.migrate_report.specs.Items.{Item}
 use Rattle.migrate_report.specs.Reading.{at_most}
-use Rattle.migrate_report.specs.Fits.{argument, types_of, block_with}
+use Rattle.c_memory.specs.Functions.{types_of}
+use Rattle.migrate_report.specs.Fits.{argument, block_with}
 
 -- what a step answers where this is due: it, or that the items don't fit where nothing is; memory may run out in place of both
 abbrev pub Gives : {A B : Type 0} → (A → B) → Option B → Result A FitFail → Type 0

@@ -9,7 +9,8 @@ ghost use Rattle.c_tree.specs.View.{view_declared, view_function, view_item, vie
 ghost use Rattle.c_memory.specs.Values.{IsMemory, AreArguments};
 ghost use Rattle.migrate_report.specs.Items.{value, items_of, items_fit_form};
 ghost use Rattle.migrate_report.specs.Reading.{view_item as view_read, signed_value};
-ghost use Rattle.migrate_report.specs.Fits.{bytes_of, block_with, set_block, block_given, blocks_of, pointer_at, number_in_range, integer_of_type, vector8, vector16, vector32, vector_of_type, argument, gives_argument, arguments, types_of, function_named, fitting, Answers};
+ghost use Rattle.c_memory.specs.Functions.{types_of, function_named};
+ghost use Rattle.migrate_report.specs.Fits.{bytes_of, block_with, set_block, block_given, blocks_of, pointer_at, number_in_range, integer_of_type, vector8, vector16, vector32, vector_of_type, argument, gives_argument, arguments, fitting, Answers};
 ghost use Rattle.migrate_report.specs.Given.{Gives, unset_block, signed_up_to, offset_in, is_pointer, seen_first, first_argument};
 ghost use Rattle.migrate_report.specs.declared.fits.FitFail.TheVariants.{Memory as OutOfMemory};
 

@@ -22,3 +22,4 @@ pub mod Again
 pub mod GoodSame
 pub mod GoodRead
 pub mod GoodUnitsRead
+pub mod Starts

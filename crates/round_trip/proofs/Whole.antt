@@ -12,7 +12,7 @@ use Rattle.c_text.specs.Source.{without_order_mark, line_behind, col_behind, pla
 use Rattle.c_text.specs.Forms.{is_within, is_bad, all_are}
 use Rattle.c_text.specs.Tokens.{Piece, bytes_in, is_white, first_behind, token_in, tokens_of, bad_bytes}
 use Rattle.c_text.proofs.Scans.{out, both}
-use Rattle.round_trip.specs.Words.{Bit, bit_text, bits_text, CutsBack, is_plain_byte, is_plain_sort, is_plain_bit, all_plain, word_of, words_of, said}
+use Rattle.round_trip.specs.Words.{Bit, bit_text, bits_text, CutsBack, is_plain_byte, is_plain_sort, is_plain_bit, all_plain, word_of, words_of, said, Marked, marked, marked_word, marked_words}
 use Rattle.round_trip.specs.Unlimited.{other_faults_in, other_faults, UnlimitedTokens}
 use Rattle.round_trip.proofs.Pieces.{bit_of, cut_back}
 
@@ -52,20 +52,20 @@ no_order_mark (a ∷ b ∷ c ∷ bs) h = rw (not_that a 239 refl (both (is_plain
 pub shown_plain : (bs : List ℕ) → all_are is_plain_byte bs ≡ true → shown bs ≡ placed 1 1 bs
 shown_plain bs h = rw (no_order_mark bs h, same_lines 1 1 bs h) (same_spliced 1 1 bs h)
 
--- the words of pieces
-pub same_words : (ps : List Piece) (spaced first : Bool) → map said (tokens_of spaced first ps) ≡ words_of (map bit_of ps)
-same_words [] spaced first = refl
-same_words (p ∷ ps) spaced first =
-    map-append said (token_in p.sort (bytes_in p) p.begin.place spaced first) (tokens_of (is_white p.sort) (first_behind p.sort first) ps)
-    ∙ rw (same_words ps (is_white p.sort) (first_behind p.sort first)) (go p.sort)
+-- the words of pieces, with their marks
+pub same_marks : (ps : List Piece) (spaced first : Bool) → map marked (tokens_of spaced first ps) ≡ marked_words spaced first (map bit_of ps)
+same_marks [] spaced first = refl
+same_marks (p ∷ ps) spaced first =
+    map-append marked (token_in p.sort (bytes_in p) p.begin.place spaced first) (tokens_of (is_white p.sort) (first_behind p.sort first) ps)
+    ∙ rw (same_marks ps (is_white p.sort) (first_behind p.sort first)) (go p.sort (marked_words (is_white p.sort) (first_behind p.sort first) (map bit_of ps)))
   where
-    go : (sort : Sort) → map said (token_in sort (bytes_in p) p.begin.place spaced first) ++ words_of (map bit_of ps) ≡ word_of sort (bytes_in p) ++ words_of (map bit_of ps)
-    go (Lexeme kind) = refl
-    go Blank = refl
-    go LineEnd = refl
-    go Comment = refl
-    go Open = refl
-    go Bad = refl
+    go : (sort : Sort) (rest : List Marked) → map marked (token_in sort (bytes_in p) p.begin.place spaced first) ++ rest ≡ marked_word sort (bytes_in p) spaced first ++ rest
+    go (Lexeme kind) rest = refl
+    go Blank rest = refl
+    go LineEnd rest = refl
+    go Comment rest = refl
+    go Open rest = refl
+    go Bad rest = refl
 
 or_false : (t : Bool) → (t || false) ≡ true → t ≡ true
 or_false true h = refl
@@ -117,13 +117,38 @@ plain_text (b ∷ bs) h =
     rw heads.0 (all_of_both b.others (bits_text bs []) heads.1 (plain_text bs (both (is_plain_bit b) (all_plain bs) h).1))
 
 -- a text that is made of words, each of which ends where the next one begins, has these words as its tokens
-pub words_again : (bits : List Bit) → CutsBack bits [] → all_plain bits ≡ true → (ts : List Token) × UnlimitedTokens (bits_text bits []) ts × (map said ts ≡ words_of bits)
+pub marks_again : (bits : List Bit) → CutsBack bits [] → all_plain bits ≡ true → (ts : List Token) × UnlimitedTokens (bits_text bits []) ts × (map marked ts ≡ marked_words false true bits)
 unfolding UnlimitedTokens
-words_again bits cuts plain =
+marks_again bits cuts plain =
     let text : List ℕ = bits_text bits [] in
     let seen : shown text ≡ placed 1 1 text = shown_plain text (plain_text bits plain) in
     let cut = cut_back bits (placed 1 1 text) (bytes_placed 1 1 text) cuts in (
       tokens_of false true cut.0,
       (cut.0, rw seen cut.1, no_faults cut.0 (rw cut.2 plain), refl),
-      same_words cut.0 false true ∙ ap words_of cut.2,
+      same_marks cut.0 false true ∙ ap (marked_words false true) cut.2,
     )
+
+-- marks taken off
+words_marked : (bits : List Bit) (spaced first : Bool) → map (λ m. m.word) (marked_words spaced first bits) ≡ words_of bits
+words_marked [] spaced first = refl
+words_marked (b ∷ bs) spaced first =
+    map-append (λ m. m.word) (marked_word b.sort (bit_text b) spaced first) (marked_words (is_white b.sort) (first_behind b.sort first) bs)
+    ∙ rw (words_marked bs (is_white b.sort) (first_behind b.sort first)) (go b.sort)
+  where
+    go : (sort : Sort) → map (λ m. m.word) (marked_word sort (bit_text b) spaced first) ++ words_of bs ≡ word_of sort (bit_text b) ++ words_of bs
+    go (Lexeme kind) = refl
+    go Blank = refl
+    go LineEnd = refl
+    go Comment = refl
+    go Open = refl
+    go Bad = refl
+
+said_marked : (ts : List Token) → map said ts ≡ map (λ m. m.word) (map marked ts)
+said_marked [] = refl
+said_marked (t ∷ ts) = ap (λ ws. said t ∷ ws) (said_marked ts)
+
+pub said_of : (ts : List Token) (bits : List Bit) (spaced first : Bool) → map marked ts ≡ marked_words spaced first bits → map said ts ≡ words_of bits
+said_of ts bits spaced first e = said_marked ts ∙ ap (map (λ m. m.word)) e ∙ words_marked bits spaced first
+
+pub words_again : (bits : List Bit) → CutsBack bits [] → all_plain bits ≡ true → (ts : List Token) × UnlimitedTokens (bits_text bits []) ts × (map said ts ≡ words_of bits)
+words_again bits cuts plain = let again = marks_again bits cuts plain in (again.0, again.1, said_of again.0 bits false true again.2)

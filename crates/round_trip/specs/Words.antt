@@ -6,6 +6,7 @@ use Rattle.c_text.specs.declared.pieces.Sort.{Sort}
 use Rattle.c_text.specs.declared.pieces.Sort.TheVariants.{Lexeme, Blank, LineEnd}
 use Rattle.c_text.specs.Forms.{is_within, is_one_of, all_are, starts, is_digit, is_name_byte, goes_on, is_mark_pair, is_mark_triple}
 use Rattle.c_text.specs.Reading.{piece_at}
+use Rattle.c_text.specs.Tokens.{is_white, first_behind}
 
 -- a word, or a byte of white space; it has one byte at least
 pub record Bit : Type 0 where
@@ -84,3 +85,22 @@ words_of (b ∷ bs) = word_of b.sort (bit_text b) ++ words_of bs
 -- what a token is, and its bytes
 abbrev pub said : Token → TokenKind × List ℕ
 said t = (t.kind, t.text)
+
+-- the same with whether white space stands directly before it, and whether it begins a line
+pub record Marked : Type 0 where
+  pub word : TokenKind × List ℕ
+  pub spaced : Bool
+  pub first : Bool
+
+abbrev pub marked : Token → Marked
+marked t = record { word = said t; spaced = t.spaced; first = t.first }
+
+-- The tokens among these, so marked. The first truth value says whether white space stands directly before them, the second whether no token
+-- stands before them on their line.
+abbrev pub marked_word : Sort → List ℕ → Bool → Bool → List Marked
+marked_word (Lexeme kind) text spaced first = record { word = (kind, text); spaced = spaced; first = first } ∷ []
+marked_word _ text spaced first = []
+
+abbrev pub marked_words : Bool → Bool → List Bit → List Marked
+marked_words spaced first [] = []
+marked_words spaced first (b ∷ bs) = marked_word b.sort (bit_text b) spaced first ++ marked_words (is_white b.sort) (first_behind b.sort first) bs

@@ -20,8 +20,8 @@ use Rattle.c_memory.specs.Memory.{ended_from}
 use Rattle.c_memory.specs.MeaningState.{State, Done, Does}
 use Rattle.c_memory.specs.Meaning.{Calls, expression, call_of}
 use Rattle.c_memory.specs.Values.{AreArguments}
-use Rattle.migrate_report.specs.Fits.{types_of}
-use Rattle.simd_top.specs.Migrated.{SameFunction}
+use Rattle.c_memory.specs.Functions.{types_of}
+use Rattle.c_memory.specs.Written.{FunctionsMatch}
 use Rattle.simd_top.specs.Rows.{intel_row}
 use Rattle.simd_top.specs.Form.{is_in, is_free, is_plain, is_parameter, are_parameters, names_of, is_register, is_expression, is_kind, are_expressions, are_two, returns, returns_option, is_body, is_heading, is_function}
 use Rattle.simd_top.specs.Written.{register, moved_type, moved_tree, moved_statements, moved_function}
@@ -144,7 +144,8 @@ pub record ReadFunction (f again : Definition) (functions : List (List ℕ × Ca
   pub function : Definition
   pub typed : check_function again (outside_functions functions here) ≡ Ok function
   pub same : stripped_definition function ≡ stripped_definition again
-  pub heading : SameFunction f function
+  pub heading : FunctionsMatch written_type f function
+  pub parameters : names_of function.params ≡ names_of f.params
   pub done : (c d : Calls) (args others : List Value) (memory : List MemoryBlock) (s : State) → DoRows c d → AreArguments memory (types_of f.params) args → ArgumentsMatch args others →
       BothDone (call_of [] f c args) (call_of [] function d others) s
 
@@ -239,9 +240,9 @@ function_read f g functions here h same before none =
         is_static = ap (λ d. d.is_static) same;
         is_inline = ap (λ d. d.is_inline) same;
         result = ap written_type (sym (m128 f.result parts.0));
-        parameters = read_names f.params g.params are;
         types = read_types f.params g.params plain are;
       };
+      parameters = read_names f.params g.params are;
       done = λ c d args others memory s do_rows k m.
           let rs = registers f.params memory args others plain k m in
           let zs = paired f.params rs.registers [] in

@@ -10,12 +10,13 @@ use Rattle.vector_types.specs.Units.{check_unit}
 use Rattle.c_memory.specs.declared.blocks.Block.{Block as MemoryBlock}
 use Rattle.c_memory.specs.Matching.{written_type}
 use Rattle.migrate_report.specs.Items.{Item, Block, Space, Integer, Vector, At, Null, items_of}
-use Rattle.migrate_report.specs.Fits.{argument, arguments, fitted, fit_memory, fit_items, fit_function, fitting, function_named, types_of, blocks_of, gives_argument}
+use Rattle.c_memory.specs.Functions.{types_of, function_named}
+use Rattle.migrate_report.specs.Fits.{argument, arguments, fitted, fit_memory, fit_items, fit_function, fitting, blocks_of, gives_argument}
 use Rattle.migrate_report.specs.declared.fits.FitFail.TheVariants as fail
 use Rattle.migrate_report.specs.Lines.{refusal_lines}
 use Rattle.simd_top.specs.Compared.{FailsInOne}
 use Rattle.simd_top.specs.Form.{is_in, is_function, first_outside}
-use Rattle.simd_top.specs.Migrated.{SameFunction, SameFunctions}
+use Rattle.c_memory.specs.Written.{FunctionsMatch}
 use Rattle.simd_top.specs.Refusals.{at_the_start, OutsideBoth, NamelessBoth, UnfitBoth}
 use Rattle.simd_top.specs.Words.{Both}
 use Rattle.simd_top.specs.Written.{moved_unit}
@@ -24,7 +25,7 @@ use Rattle.simd_top.proofs.Bodies.{plain_registers}
 use Rattle.simd_top.proofs.Conjunction.{split_and}
 use Rattle.simd_top.proofs.Headings.{item_passes, heading_of}
 use Rattle.simd_top.proofs.Parameters.{AllRegisters, m128}
-use Rattle.simd_top.proofs.Same.{is_read}
+use Rattle.simd_top.proofs.Same.{SameFunctions, is_read}
 
 argument_stays : (memory : List MemoryBlock) (item : Item) → argument memory (written_type ctypes.M128) item ≡ argument memory ctypes.M128 item
 argument_stays memory (Block align writable hex) = refl
@@ -48,7 +49,7 @@ items_stay : (ds : List Object) (o : Option (List Item)) → AllRegisters ds →
 items_stay ds None h = refl
 items_stay ds (Some items) h = memory_stays ds items (blocks_of items) h
 
-one_fits : (f g : Definition) (words : List (List ℕ)) → is_function f ≡ true → SameFunction f g → fit_function (Some g) words ≡ fit_function (Some f) words
+one_fits : (f g : Definition) (words : List (List ℕ)) → is_function f ≡ true → FunctionsMatch written_type f g → fit_function (Some g) words ≡ fit_function (Some f) words
 one_fits f g words h same = ap (λ ts. fit_items ts (items_of words)) same.types ∙ items_stay f.params (items_of words) (plain_registers [] f.params (heading_of f h).0)
 
 fits_stay : (names : List (List ℕ)) (us vs : List External) (name : List ℕ) (words : List (List ℕ)) → first_outside names us ≡ None → SameFunctions us vs → fitting vs name words ≡ fitting us name words
@@ -58,7 +59,7 @@ fits_stay names (Function f ∷ us) [] name words h same = absurd same
 fits_stay names (Function f ∷ us) (Function g ∷ vs) name words h same =
     let a = item_passes names (Function f) us h in
     subst (λ x. fit_function (cond (bytes_eq name x) (Some g) (function_named name vs)) words ≡ fitting (Function f ∷ us) name words) (sym same.0.name)
-    (go (bytes_eq name f.name) (one_fits f g words (split_and (is_function f) (not (is_in names f.name)) a.0).0 same.0) (fits_stay _ us vs name words a.1 same.1))
+    (go (bytes_eq name f.name) (one_fits f g words (split_and (is_function f) (not (is_in names f.name)) a.0).0 same.0) (fits_stay _ us vs name words a.1 same.2))
   where
     go : (b : Bool) → fit_function (Some g) words ≡ fit_function (Some f) words → fit_function (function_named name vs) words ≡ fit_function (function_named name us) words →
         fit_function (cond b (Some g) (function_named name vs)) words ≡ fit_function (cond b (Some f) (function_named name us)) words

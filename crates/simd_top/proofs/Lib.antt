@@ -5,10 +5,12 @@ mod BothRuns
 mod Conjunction
 mod Excluded
 mod Expressions
+mod FirstRun
 mod FreeNames
 mod Fronts
 mod Good
 mod Headings
+mod IncludesRead
 mod Lines
 mod Moved
 mod NamesSeen

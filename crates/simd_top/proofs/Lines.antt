@@ -5,7 +5,7 @@ use Rattle.c_text.specs.declared.tokens.Token.{Token}
 use Rattle.c_text.specs.declared.tokens.Dialect.{Dialect}
 use Rattle.simd_top.specs.Includes.{is_line, behind_includes}
 
-on_line : (x : Dialect) (a b c d e f g : Token) (rest : List Token) → is_line x a b c d e f g rest ≡ true → behind_includes x (a ∷ b ∷ c ∷ d ∷ e ∷ f ∷ g ∷ rest) ≡ behind_includes x rest
+pub on_line : (x : Dialect) (a b c d e f g : Token) (rest : List Token) → is_line x a b c d e f g rest ≡ true → behind_includes x (a ∷ b ∷ c ∷ d ∷ e ∷ f ∷ g ∷ rest) ≡ behind_includes x rest
 on_line x a b c d e f g rest h = rw h refl
 
 pub past_line : (x : Dialect) (ts : List Token) (a b c d e f g : Token) → 7 ≤ length ts → a ≡ slice_index_or ts 0 a → b ≡ slice_index_or ts 1 b → c ≡ slice_index_or ts 2 c →

@@ -14,7 +14,7 @@ use Rattle.c_memory.specs.Values.{IsOfType, AreArguments}
 use Rattle.c_memory.specs.MeaningState.{State, Binding, Apart, Done, found}
 use Rattle.c_memory.specs.Meaning.{begin_parameters}
 use Rattle.simd_top.specs.Form.{is_in, is_register, names_of}
-use Rattle.migrate_report.specs.Fits.{types_of}
+use Rattle.c_memory.specs.Functions.{types_of}
 use Rattle.simd_top.specs.Written.{moved_type}
 use Rattle.simd_top.proofs.Expressions.{Known, name_value}
 

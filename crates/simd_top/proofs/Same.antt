@@ -14,20 +14,22 @@ use Rattle.vector_types.specs.Functions.{heading_of as function_heading, with_fu
 use Rattle.vector_types.specs.Units.{check_items, answer, check_unit}
 use Rattle.c_memory.specs.declared.blocks.Block.{Block as MemoryBlock}
 use Rattle.c_memory.specs.declared.value.Value.{Value}
-use Rattle.c_memory.specs.Matching.{ArgumentsMatch}
+use Rattle.c_memory.specs.Matching.{written_type, ArgumentsMatch}
 use Rattle.c_memory.specs.MeaningState.{State, Does}
 use Rattle.c_memory.specs.Meaning.{Calls, call_of, with_function, outermost, functions, table_blocks, table_objects, outcome}
 use Rattle.c_memory.specs.Values.{AreArguments}
-use Rattle.migrate_report.specs.Fits.{types_of}
-use Rattle.simd_top.specs.Migrated.{SameFunctions, Follows, DoesTheSame, Migrated}
+use Rattle.c_memory.specs.Functions.{types_of}
+use Rattle.c_memory.specs.Written.{FunctionsMatch, UnitsMatch, no_items, and_function, Follows, DoesTheSame}
+use Rattle.simd_top.specs.Migrated.{parameters_of, Migrated}
 use Rattle.simd_top.specs.Rows.{neon_name, moved_row}
 use Rattle.simd_top.specs.Ran.{rows}
 use Rattle.simd_top.specs.Source.{HasUnit}
-use Rattle.simd_top.specs.Form.{is_in, is_free, is_function, first_outside}
+use Rattle.simd_top.specs.Form.{is_in, is_free, is_function, names_of, first_outside}
 use Rattle.simd_top.specs.Written.{moved_function, moved_unit}
 use Rattle.simd_top.proofs.Conjunction.{split_and}
 use Rattle.simd_top.proofs.Values.{named as row_named, intel_call, neon_call}
 use Rattle.simd_top.proofs.Good.{good_unit}
+use Rattle.simd_top.proofs.IncludesRead.{read_back}
 use Rattle.simd_top.proofs.FreeNames.{other_than_intel, other_than_neon}
 use Rattle.simd_top.proofs.Headings.{item_passes, result_and_name, heading_of}
 use Rattle.simd_top.proofs.Expressions.{DoRows, HasNoRow}
@@ -132,6 +134,22 @@ no_row_items names (Table d static ∷ us) (w ∷ ws) i all h same none = let a 
 
 -- ---- the unit
 
+-- The same functions in the same order, with parameters of the same names.
+abbrev pub SameFunctions : List External → List External → Type 0
+SameFunctions [] [] = Unit {0}
+SameFunctions (Function f ∷ fs) (Function g ∷ gs) = FunctionsMatch written_type f g × (names_of g.params ≡ names_of f.params) × SameFunctions fs gs
+SameFunctions _ _ = ⊥
+
+units_match : (us vs : List External) → SameFunctions us vs → UnitsMatch written_type us vs
+units_match [] [] h = no_items
+units_match (Function f ∷ us) (Function g ∷ vs) h = and_function f g us vs h.0 (units_match us vs h.2)
+units_match us vs h = absurd h
+
+parameters_same : (us vs : List External) → SameFunctions us vs → parameters_of vs ≡ parameters_of us
+parameters_same [] [] h = refl
+parameters_same (Function f ∷ us) (Function g ∷ vs) h = rw (h.1, parameters_same us vs h.2) refl
+parameters_same us vs h = absurd h
+
 -- What is read in place of a unit of the form, as far as its items behind some functions go. With its types it is this one: the same, with functions that are the same and do
 -- the same, and without tables, as the unit.
 record ReadUnit (us ws : List External) (before : List (List ℕ × Callee)) (here : ℕ) : Type 0 where
@@ -172,7 +190,7 @@ items_read names (Function f ∷ us) (Function g ∷ ws) i all before h same is 
       items = Function r.function ∷ rest.items;
       typed = one_judged g r.function ws rest.items before i r.typed rest.typed;
       same = rw (r.same, rest.same) refl;
-      headings = (r.heading, rest.headings);
+      headings = (r.heading, r.parameters, rest.headings);
       all = (b.0, r.heading.name, r.done, rest.all);
       no_blocks = rest.no_blocks;
       no_blocks_read = rest.no_blocks_read;
@@ -186,12 +204,12 @@ items_read names (Table d static ∷ us) (w ∷ ws) i all before h same is unsee
 follows : (n : ℕ) (p q : Does (Option Value)) (s : State) → BothDone p q s → Follows n (outcome (p s)) (outcome (q s))
 follows n p q s done = rw (done.first, done.second) (refl, refl)
 
-does_the_same : (us vs : List External) → AllDone (functions us) (functions vs) → table_blocks us ≡ [] → table_blocks vs ≡ [] → ((n : ℕ) → table_objects n us ≡ []) → ((n : ℕ) → table_objects n vs ≡ []) → DoesTheSame us vs
-does_the_same us vs all no_blocks no_blocks_read no_objects no_objects_read name f args others memory turns found k m =
+does_the_same : (us vs : List External) → AllDone (functions us) (functions vs) → table_blocks us ≡ [] → table_blocks vs ≡ [] → ((n : ℕ) → table_objects n us ≡ []) → ((n : ℕ) → table_objects n vs ≡ []) → DoesTheSame (rows X86) (rows Neon) written_type us vs
+does_the_same us vs all no_blocks no_blocks_read no_objects no_objects_read name f args others memory turns found good m =
     rw (no_blocks_read, no_objects_read (length memory), no_blocks, no_objects (length memory))
     (follows (length memory + length {A = MemoryBlock} []) (outermost [] (rows X86) (functions us) name args) (outermost [] (rows Neon) (functions vs) name others)
     (record { objects = []; memory = memory ++ []; left = turns })
-    (outermost_done (functions us) (functions vs) (rows X86) (rows Neon) name f args others memory (record { objects = []; memory = memory ++ []; left = turns }) rows_done all found k m))
+    (outermost_done (functions us) (functions vs) (rows X86) (rows Neon) name f args others memory (record { objects = []; memory = memory ++ []; left = turns }) rows_done all found m.first m.same))
 
 -- the unit that is read has its types, and with them it is the same and does the same
 pub record IsRead (unit again : List External) : Type 0 where
@@ -199,7 +217,7 @@ pub record IsRead (unit again : List External) : Type 0 where
   pub typed : check_unit Neon again ≡ Ok typed_unit
   pub same_unit : Same typed_unit again
   pub same : SameFunctions unit typed_unit
-  pub does_the_same : DoesTheSame unit typed_unit
+  pub does_the_same : DoesTheSame (rows X86) (rows Neon) written_type unit typed_unit
 
 pub is_read : (us ws : List External) → first_outside [] us ≡ None → Same ws (moved_unit us) → IsRead us ws
 is_read us ws h same =
@@ -214,7 +232,7 @@ is_read us ws h same =
 
 pub migrated : (source text : List ℕ) (u : List External) → HasUnit X86 source u → first_outside [] u ≡ None → text ≡ text_of (moved_unit u) → Migrated source text
 migrated source text u has form is =
-    let again = text_again (moved_unit u) (good_unit [] u form) in
+    let again = read_back (moved_unit u) (text_again (moved_unit u) (good_unit [] u form)) in
     let r = is_read u again.again form again.same in
     record {
       unit = u;
@@ -225,6 +243,7 @@ migrated source text u has form is =
       again = again;
       typed = r.typed;
       same_unit = r.same_unit ∙ again.same;
-      same = r.same;
+      same = units_match u r.typed_unit r.same;
+      parameters = parameters_same u r.typed_unit r.same;
       does_the_same = r.does_the_same;
     }

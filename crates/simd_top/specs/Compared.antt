@@ -54,6 +54,10 @@ Fails unit name items fail.NoFunction = fitting unit name items ≡ NoFunction
 Fails unit name items fail.DontFit = fitting unit name items ≡ DontFit
 Fails unit name items fail.Memory = Unit {0}
 
+-- the function is there, and the items fit it
+abbrev pub HasFit : List External → List ℕ → List (List ℕ) → Type 0
+HasFit unit name items = (args : List Value) × (memory : List Block) × (fitting unit name items ≡ Fit args memory)
+
 -- what the items give isn't for the first unit; or it is, and not for the second
 abbrev pub FailsInOne : List External → List External → List ℕ → List (List ℕ) → FitFail → Type 0
 FailsInOne source written name items e = Fails source name items e ⊎ ((args : List Value) × (memory : List Block) × (fitting source name items ≡ Fit args memory) × Fails written name items e)

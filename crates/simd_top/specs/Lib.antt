@@ -9,6 +9,7 @@ pub mod Source
 pub mod Refusals
 pub mod Ran
 pub mod Compared
+pub mod ReadBack
 pub mod Migrated
 pub mod Due
 pub mod TopCall

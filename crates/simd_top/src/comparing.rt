@@ -1,11 +1,11 @@
 //! The runs of a function before and after its unit is migrated.
 
-ghost use Rattle.std.specs.Prelude.{◌≡◌, ◌⊎◌, length, map, string_bytes, IfOk, IfErr, OnOk, ◌++◌, IsTrue};
+ghost use Rattle.std.specs.Prelude.{◌≡◌, ◌⊎◌, length, map, string_bytes, IfOk, IfErr, OnOk, ◌++◌, [], false, IsTrue};
 ghost use Rattle.c_tree.specs.View.{view_unit};
 ghost use Rattle.c_memory.specs.Outcomes.{outcome_of};
 ghost use Rattle.migrate_report.specs.Items.{items_fit_form};
 ghost use Rattle.migrate_report.specs.Texts.{run_text};
-ghost use Rattle.simd_top.specs.Compared.{IsRun, IsCompared, is_defined, second_lines, both_lines, Fails, FailsInOne};
+ghost use Rattle.simd_top.specs.Compared.{IsRun, IsCompared, HasFit, is_defined, second_lines, both_lines, Fails, FailsInOne};
 ghost use Rattle.simd_top.specs.Ran.{status_of};
 
 use crate::running::outcome;
@@ -108,14 +108,40 @@ fn told(
     )
 }
 
+// Whether the items fit the function of that name: its run isn't made.
+fn fits(alloc: Global, unit: &TypedUnit, name: &[u8], items: &[String]) -> Result<(), FitFail>
+    requires { IsTrue (items_fit_form (map (λ w. string_bytes w) items.now)) }
+    ensures fits { IfOk result (λ p. HasFit (view_unit unit.now.unit) name.now (map (λ w. string_bytes w) items.now)) }
+    ensures fails { IfErr result (λ e. Fails (view_unit unit.now.unit) name.now (map (λ w. string_bytes w) items.now) e) }
+{
+    match fit(alloc, unit, name, items) {
+        Ok(_) => Ok(()),
+        Err(fail) => Err(fail),
+    }
+}
+
+// The text of a first run that is undefined: it tells nothing of the second, which isn't made.
+fn told_undefined(
+    alloc: Global,
+    source: &TypedUnit,
+    blocks: usize,
+    first: &Outcome,
+) -> Result<Vec<u8>, AllocError>
+    ensures { IfOk result (λ text. text.items ≡ both_lines (run_text (view_unit source.now.unit) blocks (outcome_of first.now)) false []) }
+{
+    let before = outcome_text(alloc, source, blocks, first)?;
+    both_lines(alloc, before.as_slice(), false, &[])
+}
+
 /// The text that tells how the function of that name runs in the source, by Intel's rows, and how in the written unit, by Arm's: the line `x86` and the text of
 /// the first run, and unless that is `undefined` the line `neon` and the text of the second. The status is that of the first run. `items` give the arguments and the
-/// memory of each run.
+/// memory of each run. The second run is made only where the first isn't undefined.
 ///
 /// # Errors
 ///
 /// - `NoFunction`, `DontFit` where a unit has no function of the name, or the items don't fit its parameters: the source, or else the written unit.
 /// - `Memory` where memory ran out, in place of any other answer.
+#[tactic(auto, using(crate::proofs::FirstRun::undefined_compared))]
 pub fn both_text(
     alloc: Global,
     source: &TypedUnit,
@@ -129,7 +155,13 @@ pub fn both_text(
     ensures fails { IfErr result (λ e. FailsInOne (view_unit source.now.unit) (view_unit written.now.unit) name.now (map (λ w. string_bytes w) items.now) e) }
 {
     let (first, blocks) = ran(alloc, Dialect::X86, source, name, turns, items)?;
-    let (second, others) = ran(alloc, Dialect::Neon, written, name, turns, items)?;
-    let text = told(alloc, source, blocks, &first, written, others, &second)?;
-    Ok((text, status_of(&first)))
+    if is_defined(&first) {
+        let (second, others) = ran(alloc, Dialect::Neon, written, name, turns, items)?;
+        let text = told(alloc, source, blocks, &first, written, others, &second)?;
+        Ok((text, status_of(&first)))
+    } else {
+        fits(alloc, written, name, items)?;
+        let text = told_undefined(alloc, source, blocks, &first)?;
+        Ok((text, status_of(&first)))
+    }
 }

@@ -7,13 +7,13 @@ use Rattle.c_tree.specs.declared.statements.Stmt.TheOpen.{Stmt-F}
 use Rattle.c_tree.specs.Tree.{Statement, While, DoWhile}
 use Rattle.c_tree.specs.View.{view, view_declared, view_stmt, stmt_step}
 use Rattle.address_taken.specs.Taken.{seen_all}
+use Rattle.c_memory.specs.MeaningState.{scoped}
 use Rattle.c_memory.specs.Meaning.{condition, expression, loops, loops_after, with_step, optional_condition, optional_value}
 use Rattle.c_meaning.specs.States.{seen_state}
 use Rattle.c_meaning.specs.Callees.{seen_callee, calls_at}
 use Rattle.c_meaning.specs.Flagged.{parts_of, act}
 use Rattle.c_meaning.specs.Weights.{weight, optional_weight, statement_weight}
 use Rattle.c_meaning.proofs.Callees.{call_enters, call_of_no_function, weight_falls}
-use Rattle.c_meaning.proofs.Halves.{half_at}
 use Rattle.c_meaning.proofs.Turns.{weights_at, objects_weight_at, statements_weight_at, loop_turn, loop_fails, loop_ends, loop_spends, loop_enters, after_turn, after_spends, after_enters, after_tests, steps, step_done, values_more, declare_starts, declare_more}
 use Rattle.c_meaning.proofs.evaluation.+run.Goals as goal
 
@@ -53,10 +53,6 @@ call-returns-in_ok-spend_for-in-Some g t c =
     let count : c.min-count.result ≡ min c.args.n (length c.args.env.now.callees.items) = omega (arith, ap length c.as_slice-callees.ensures.value) in
     rw (call_enters c.args.env.now.tables g.R.Rows.row_call c.args.env.now.callees.items c.as_slice-callees.result.now c.args.n c.min-count.result c.in-Some.k c.index-callee.result.now c.args.name.now c.args.given.now (seen_state c.args.state.now) c.as_slice-callees.ensures.value count c.in-Some.ensures.within c.in-Some.ensures.last c.index-callee.ensures, c.in_ok-spend_for-in-Some.ensures) c.enter.ensures
 
-pub half_of_pair-returns : goal.half_of_pair-returns
-half_of_pair-returns g t c =
-    rw (half_at c.args._ty (view c.args.e.now) c.args.k (calls_at c.args.env.now.tables g.R.Rows.row_call c.args.env.now.callees.items c.args.n) (seen_state c.args.state.now)) c.half.ensures
-
 pub initialise-returns-in-None : goal.initialise-returns-in-None
 initialise-returns-in-None g t c =
     rw c.in-None.is (c.first_list.ensures (calls_at c.args.env.now.tables g.R.Rows.row_call c.args.env.now.callees.items c.args.n))
@@ -75,87 +71,87 @@ body-returns g t c =
 
 pub turns-returns-in_err-v : goal.turns-returns-in_err-v
 turns-returns-in_err-v g t c =
-    rw (c.loop-v.invariant, loop_fails c.loop-v.most (condition (expression (view c.args.c.now) (calls_at c.args.env.now.tables g.R.Rows.row_call c.args.env.now.callees.items c.args.n))) (act (view_stmt c.args.s.now) (seen_all c.args.taken.now) (calls_at c.args.env.now.tables g.R.Rows.row_call c.args.env.now.callees.items c.args.n)) (seen_state c.loop-v.state) _ refl) (search (rules, common_steps))
+    rw (c.loop-v.invariant, loop_fails c.loop-v.most (condition (expression (view c.args.c.now) (calls_at c.args.env.now.tables g.R.Rows.row_call c.args.env.now.callees.items c.args.n))) (scoped (act (view_stmt c.args.s.now) (seen_all c.args.taken.now) (calls_at c.args.env.now.tables g.R.Rows.row_call c.args.env.now.callees.items c.args.n))) (seen_state c.loop-v.state) _ refl) (search (rules, common_steps))
 
 pub turns-returns-in_err-spend : goal.turns-returns-in_err-spend
 turns-returns-in_err-spend g t c =
-    rw (c.loop-v.invariant ∙ loop_spends c.loop-v.most (condition (expression (view c.args.c.now) (calls_at c.args.env.now.tables g.R.Rows.row_call c.args.env.now.callees.items c.args.n))) (act (view_stmt c.args.s.now) (seen_all c.args.taken.now) (calls_at c.args.env.now.tables g.R.Rows.row_call c.args.env.now.callees.items c.args.n)) (seen_state c.loop-v.state) _ _ (omega arith) c.in_ok-v.ensures c.if-not-v.false) (search (rules, common_steps))
+    rw (c.loop-v.invariant ∙ loop_spends c.loop-v.most (condition (expression (view c.args.c.now) (calls_at c.args.env.now.tables g.R.Rows.row_call c.args.env.now.callees.items c.args.n))) (scoped (act (view_stmt c.args.s.now) (seen_all c.args.taken.now) (calls_at c.args.env.now.tables g.R.Rows.row_call c.args.env.now.callees.items c.args.n))) (seen_state c.loop-v.state) _ _ (omega arith) c.in_ok-v.ensures c.if-not-v.false) (search (rules, common_steps))
 
-pub turns-returns-in_err-act : goal.turns-returns-in_err-act
-turns-returns-in_err-act g t c =
-    rw (c.loop-v.invariant ∙ loop_enters c.loop-v.most (condition (expression (view c.args.c.now) (calls_at c.args.env.now.tables g.R.Rows.row_call c.args.env.now.callees.items c.args.n))) (act (view_stmt c.args.s.now) (seen_all c.args.taken.now) (calls_at c.args.env.now.tables g.R.Rows.row_call c.args.env.now.callees.items c.args.n)) (seen_state c.loop-v.state) _ _ _ _ (omega arith) c.in_ok-v.ensures c.if-not-v.false c.in_ok-spend.ensures) (search (rules, common_steps))
+pub turns-returns-in_err-in_scope : goal.turns-returns-in_err-in_scope
+turns-returns-in_err-in_scope g t c =
+    rw (c.loop-v.invariant ∙ loop_enters c.loop-v.most (condition (expression (view c.args.c.now) (calls_at c.args.env.now.tables g.R.Rows.row_call c.args.env.now.callees.items c.args.n))) (scoped (act (view_stmt c.args.s.now) (seen_all c.args.taken.now) (calls_at c.args.env.now.tables g.R.Rows.row_call c.args.env.now.callees.items c.args.n))) (seen_state c.loop-v.state) _ _ _ _ (omega arith) c.in_ok-v.ensures c.if-not-v.false c.in_ok-spend.ensures) (search (rules, common_steps))
 
 pub turns-returns-in-Broke : goal.turns-returns-in-Broke
 turns-returns-in-Broke g t c =
-    rw (c.loop-v.invariant ∙ loop_enters c.loop-v.most (condition (expression (view c.args.c.now) (calls_at c.args.env.now.tables g.R.Rows.row_call c.args.env.now.callees.items c.args.n))) (act (view_stmt c.args.s.now) (seen_all c.args.taken.now) (calls_at c.args.env.now.tables g.R.Rows.row_call c.args.env.now.callees.items c.args.n)) (seen_state c.loop-v.state) _ _ _ _ (omega arith) c.in_ok-v.ensures c.if-not-v.false c.in_ok-spend.ensures) (search (rules, common_steps))
+    rw (c.loop-v.invariant ∙ loop_enters c.loop-v.most (condition (expression (view c.args.c.now) (calls_at c.args.env.now.tables g.R.Rows.row_call c.args.env.now.callees.items c.args.n))) (scoped (act (view_stmt c.args.s.now) (seen_all c.args.taken.now) (calls_at c.args.env.now.tables g.R.Rows.row_call c.args.env.now.callees.items c.args.n))) (seen_state c.loop-v.state) _ _ _ _ (omega arith) c.in_ok-v.ensures c.if-not-v.false c.in_ok-spend.ensures) (search (rules, common_steps))
 
 pub turns-returns-in-Returned : goal.turns-returns-in-Returned
 turns-returns-in-Returned g t c =
-    rw (c.loop-v.invariant ∙ loop_enters c.loop-v.most (condition (expression (view c.args.c.now) (calls_at c.args.env.now.tables g.R.Rows.row_call c.args.env.now.callees.items c.args.n))) (act (view_stmt c.args.s.now) (seen_all c.args.taken.now) (calls_at c.args.env.now.tables g.R.Rows.row_call c.args.env.now.callees.items c.args.n)) (seen_state c.loop-v.state) _ _ _ _ (omega arith) c.in_ok-v.ensures c.if-not-v.false c.in_ok-spend.ensures) (search (rules, common_steps))
+    rw (c.loop-v.invariant ∙ loop_enters c.loop-v.most (condition (expression (view c.args.c.now) (calls_at c.args.env.now.tables g.R.Rows.row_call c.args.env.now.callees.items c.args.n))) (scoped (act (view_stmt c.args.s.now) (seen_all c.args.taken.now) (calls_at c.args.env.now.tables g.R.Rows.row_call c.args.env.now.callees.items c.args.n))) (seen_state c.loop-v.state) _ _ _ _ (omega arith) c.in_ok-v.ensures c.if-not-v.false c.in_ok-spend.ensures) (search (rules, common_steps))
 
 pub turns-loop-v-preserved : goal.turns-loop-v-preserved
 turns-loop-v-preserved g t c =
-    c.loop-v.invariant ∙ loop_turn c.loop-v.most (condition (expression (view c.args.c.now) (calls_at c.args.env.now.tables g.R.Rows.row_call c.args.env.now.callees.items c.args.n))) (act (view_stmt c.args.s.now) (seen_all c.args.taken.now) (calls_at c.args.env.now.tables g.R.Rows.row_call c.args.env.now.callees.items c.args.n)) (seen_state c.loop-v.state) _ _ _ _ _ _ (omega arith) c.in_ok-v.ensures c.if-not-v.false c.in_ok-spend.ensures c.in_ok-act.ensures c.in-Next.is
+    c.loop-v.invariant ∙ loop_turn c.loop-v.most (condition (expression (view c.args.c.now) (calls_at c.args.env.now.tables g.R.Rows.row_call c.args.env.now.callees.items c.args.n))) (scoped (act (view_stmt c.args.s.now) (seen_all c.args.taken.now) (calls_at c.args.env.now.tables g.R.Rows.row_call c.args.env.now.callees.items c.args.n))) (seen_state c.loop-v.state) _ _ _ _ _ _ (omega arith) c.in_ok-v.ensures c.if-not-v.false c.in_ok-spend.ensures c.in_ok-in_scope.ensures c.in-Next.is
 
 pub turns_with-returns-in_err-v : goal.turns_with-returns-in_err-v
 turns_with-returns-in_err-v g t c =
-    rw (c.loop-v.invariant, loop_fails c.loop-v.most (optional_condition (option_map view c.args.c.now) (calls_at c.args.env.now.tables g.R.Rows.row_call c.args.env.now.callees.items c.args.n)) (with_step (act (view_stmt c.args.s.now) (seen_all c.args.taken.now) (calls_at c.args.env.now.tables g.R.Rows.row_call c.args.env.now.callees.items c.args.n)) (optional_value (option_map view c.args.next.now) (calls_at c.args.env.now.tables g.R.Rows.row_call c.args.env.now.callees.items c.args.n))) (seen_state c.loop-v.state) _ refl) (search (rules, common_steps))
+    rw (c.loop-v.invariant, loop_fails c.loop-v.most (optional_condition (option_map view c.args.c.now) (calls_at c.args.env.now.tables g.R.Rows.row_call c.args.env.now.callees.items c.args.n)) (with_step (scoped (act (view_stmt c.args.s.now) (seen_all c.args.taken.now) (calls_at c.args.env.now.tables g.R.Rows.row_call c.args.env.now.callees.items c.args.n))) (optional_value (option_map view c.args.next.now) (calls_at c.args.env.now.tables g.R.Rows.row_call c.args.env.now.callees.items c.args.n))) (seen_state c.loop-v.state) _ refl) (search (rules, common_steps))
 
 pub turns_with-returns-then-not-v : goal.turns_with-returns-then-not-v
 turns_with-returns-then-not-v g t c =
-    c.loop-v.invariant ∙ loop_ends c.loop-v.most (optional_condition (option_map view c.args.c.now) (calls_at c.args.env.now.tables g.R.Rows.row_call c.args.env.now.callees.items c.args.n)) (with_step (act (view_stmt c.args.s.now) (seen_all c.args.taken.now) (calls_at c.args.env.now.tables g.R.Rows.row_call c.args.env.now.callees.items c.args.n)) (optional_value (option_map view c.args.next.now) (calls_at c.args.env.now.tables g.R.Rows.row_call c.args.env.now.callees.items c.args.n))) (seen_state c.loop-v.state) _ _ c.in_ok-v.ensures c.if-not-v.true
+    c.loop-v.invariant ∙ loop_ends c.loop-v.most (optional_condition (option_map view c.args.c.now) (calls_at c.args.env.now.tables g.R.Rows.row_call c.args.env.now.callees.items c.args.n)) (with_step (scoped (act (view_stmt c.args.s.now) (seen_all c.args.taken.now) (calls_at c.args.env.now.tables g.R.Rows.row_call c.args.env.now.callees.items c.args.n))) (optional_value (option_map view c.args.next.now) (calls_at c.args.env.now.tables g.R.Rows.row_call c.args.env.now.callees.items c.args.n))) (seen_state c.loop-v.state) _ _ c.in_ok-v.ensures c.if-not-v.true
 
 pub turns_with-returns-in_err-spend : goal.turns_with-returns-in_err-spend
 turns_with-returns-in_err-spend g t c =
-    rw (c.loop-v.invariant ∙ loop_spends c.loop-v.most (optional_condition (option_map view c.args.c.now) (calls_at c.args.env.now.tables g.R.Rows.row_call c.args.env.now.callees.items c.args.n)) (with_step (act (view_stmt c.args.s.now) (seen_all c.args.taken.now) (calls_at c.args.env.now.tables g.R.Rows.row_call c.args.env.now.callees.items c.args.n)) (optional_value (option_map view c.args.next.now) (calls_at c.args.env.now.tables g.R.Rows.row_call c.args.env.now.callees.items c.args.n))) (seen_state c.loop-v.state) _ _ (omega arith) c.in_ok-v.ensures c.if-not-v.false) (search (rules, common_steps))
+    rw (c.loop-v.invariant ∙ loop_spends c.loop-v.most (optional_condition (option_map view c.args.c.now) (calls_at c.args.env.now.tables g.R.Rows.row_call c.args.env.now.callees.items c.args.n)) (with_step (scoped (act (view_stmt c.args.s.now) (seen_all c.args.taken.now) (calls_at c.args.env.now.tables g.R.Rows.row_call c.args.env.now.callees.items c.args.n))) (optional_value (option_map view c.args.next.now) (calls_at c.args.env.now.tables g.R.Rows.row_call c.args.env.now.callees.items c.args.n))) (seen_state c.loop-v.state) _ _ (omega arith) c.in_ok-v.ensures c.if-not-v.false) (search (rules, common_steps))
 
-pub turns_with-returns-in_err-act : goal.turns_with-returns-in_err-act
-turns_with-returns-in_err-act g t c =
-    rw (c.loop-v.invariant ∙ loop_enters c.loop-v.most (optional_condition (option_map view c.args.c.now) (calls_at c.args.env.now.tables g.R.Rows.row_call c.args.env.now.callees.items c.args.n)) (with_step (act (view_stmt c.args.s.now) (seen_all c.args.taken.now) (calls_at c.args.env.now.tables g.R.Rows.row_call c.args.env.now.callees.items c.args.n)) (optional_value (option_map view c.args.next.now) (calls_at c.args.env.now.tables g.R.Rows.row_call c.args.env.now.callees.items c.args.n))) (seen_state c.loop-v.state) _ _ _ _ (omega arith) c.in_ok-v.ensures c.if-not-v.false c.in_ok-spend.ensures) (search (rules, common_steps))
+pub turns_with-returns-in_err-in_scope : goal.turns_with-returns-in_err-in_scope
+turns_with-returns-in_err-in_scope g t c =
+    rw (c.loop-v.invariant ∙ loop_enters c.loop-v.most (optional_condition (option_map view c.args.c.now) (calls_at c.args.env.now.tables g.R.Rows.row_call c.args.env.now.callees.items c.args.n)) (with_step (scoped (act (view_stmt c.args.s.now) (seen_all c.args.taken.now) (calls_at c.args.env.now.tables g.R.Rows.row_call c.args.env.now.callees.items c.args.n))) (optional_value (option_map view c.args.next.now) (calls_at c.args.env.now.tables g.R.Rows.row_call c.args.env.now.callees.items c.args.n))) (seen_state c.loop-v.state) _ _ _ _ (omega arith) c.in_ok-v.ensures c.if-not-v.false c.in_ok-spend.ensures) (search (rules, common_steps))
 
 pub turns_with-returns-in-Broke : goal.turns_with-returns-in-Broke
 turns_with-returns-in-Broke g t c =
-    rw (c.loop-v.invariant ∙ loop_enters c.loop-v.most (optional_condition (option_map view c.args.c.now) (calls_at c.args.env.now.tables g.R.Rows.row_call c.args.env.now.callees.items c.args.n)) (with_step (act (view_stmt c.args.s.now) (seen_all c.args.taken.now) (calls_at c.args.env.now.tables g.R.Rows.row_call c.args.env.now.callees.items c.args.n)) (optional_value (option_map view c.args.next.now) (calls_at c.args.env.now.tables g.R.Rows.row_call c.args.env.now.callees.items c.args.n))) (seen_state c.loop-v.state) _ _ _ _ (omega arith) c.in_ok-v.ensures c.if-not-v.false c.in_ok-spend.ensures) (search (rules, common_steps))
+    rw (c.loop-v.invariant ∙ loop_enters c.loop-v.most (optional_condition (option_map view c.args.c.now) (calls_at c.args.env.now.tables g.R.Rows.row_call c.args.env.now.callees.items c.args.n)) (with_step (scoped (act (view_stmt c.args.s.now) (seen_all c.args.taken.now) (calls_at c.args.env.now.tables g.R.Rows.row_call c.args.env.now.callees.items c.args.n))) (optional_value (option_map view c.args.next.now) (calls_at c.args.env.now.tables g.R.Rows.row_call c.args.env.now.callees.items c.args.n))) (seen_state c.loop-v.state) _ _ _ _ (omega arith) c.in_ok-v.ensures c.if-not-v.false c.in_ok-spend.ensures) (search (rules, common_steps))
 
 pub turns_with-returns-in-Returned : goal.turns_with-returns-in-Returned
 turns_with-returns-in-Returned g t c =
-    rw (c.loop-v.invariant ∙ loop_enters c.loop-v.most (optional_condition (option_map view c.args.c.now) (calls_at c.args.env.now.tables g.R.Rows.row_call c.args.env.now.callees.items c.args.n)) (with_step (act (view_stmt c.args.s.now) (seen_all c.args.taken.now) (calls_at c.args.env.now.tables g.R.Rows.row_call c.args.env.now.callees.items c.args.n)) (optional_value (option_map view c.args.next.now) (calls_at c.args.env.now.tables g.R.Rows.row_call c.args.env.now.callees.items c.args.n))) (seen_state c.loop-v.state) _ _ _ _ (omega arith) c.in_ok-v.ensures c.if-not-v.false c.in_ok-spend.ensures) (search (rules, common_steps))
+    rw (c.loop-v.invariant ∙ loop_enters c.loop-v.most (optional_condition (option_map view c.args.c.now) (calls_at c.args.env.now.tables g.R.Rows.row_call c.args.env.now.callees.items c.args.n)) (with_step (scoped (act (view_stmt c.args.s.now) (seen_all c.args.taken.now) (calls_at c.args.env.now.tables g.R.Rows.row_call c.args.env.now.callees.items c.args.n))) (optional_value (option_map view c.args.next.now) (calls_at c.args.env.now.tables g.R.Rows.row_call c.args.env.now.callees.items c.args.n))) (seen_state c.loop-v.state) _ _ _ _ (omega arith) c.in_ok-v.ensures c.if-not-v.false c.in_ok-spend.ensures) (search (rules, common_steps))
 
 pub turns_with-returns-in_err-optional_step : goal.turns_with-returns-in_err-optional_step
 turns_with-returns-in_err-optional_step g t c =
-    rw (c.loop-v.invariant ∙ loop_enters c.loop-v.most (optional_condition (option_map view c.args.c.now) (calls_at c.args.env.now.tables g.R.Rows.row_call c.args.env.now.callees.items c.args.n)) (with_step (act (view_stmt c.args.s.now) (seen_all c.args.taken.now) (calls_at c.args.env.now.tables g.R.Rows.row_call c.args.env.now.callees.items c.args.n)) (optional_value (option_map view c.args.next.now) (calls_at c.args.env.now.tables g.R.Rows.row_call c.args.env.now.callees.items c.args.n))) (seen_state c.loop-v.state) _ _ _ _ (omega arith) c.in_ok-v.ensures c.if-not-v.false c.in_ok-spend.ensures, steps (act (view_stmt c.args.s.now) (seen_all c.args.taken.now) (calls_at c.args.env.now.tables g.R.Rows.row_call c.args.env.now.callees.items c.args.n)) (optional_value (option_map view c.args.next.now) (calls_at c.args.env.now.tables g.R.Rows.row_call c.args.env.now.callees.items c.args.n)) (seen_state c.spend.new.self) _ _ c.in_ok-act.ensures c.in-Next.is) (search (rules, common_steps))
+    rw (c.loop-v.invariant ∙ loop_enters c.loop-v.most (optional_condition (option_map view c.args.c.now) (calls_at c.args.env.now.tables g.R.Rows.row_call c.args.env.now.callees.items c.args.n)) (with_step (scoped (act (view_stmt c.args.s.now) (seen_all c.args.taken.now) (calls_at c.args.env.now.tables g.R.Rows.row_call c.args.env.now.callees.items c.args.n))) (optional_value (option_map view c.args.next.now) (calls_at c.args.env.now.tables g.R.Rows.row_call c.args.env.now.callees.items c.args.n))) (seen_state c.loop-v.state) _ _ _ _ (omega arith) c.in_ok-v.ensures c.if-not-v.false c.in_ok-spend.ensures, steps (scoped (act (view_stmt c.args.s.now) (seen_all c.args.taken.now) (calls_at c.args.env.now.tables g.R.Rows.row_call c.args.env.now.callees.items c.args.n))) (optional_value (option_map view c.args.next.now) (calls_at c.args.env.now.tables g.R.Rows.row_call c.args.env.now.callees.items c.args.n)) (seen_state c.spend.new.self) _ _ c.in_ok-in_scope.ensures c.in-Next.is) (search (rules, common_steps))
 
 pub turns_with-loop-v-preserved : goal.turns_with-loop-v-preserved
 turns_with-loop-v-preserved g t c =
-    c.loop-v.invariant ∙ loop_turn c.loop-v.most (optional_condition (option_map view c.args.c.now) (calls_at c.args.env.now.tables g.R.Rows.row_call c.args.env.now.callees.items c.args.n)) (with_step (act (view_stmt c.args.s.now) (seen_all c.args.taken.now) (calls_at c.args.env.now.tables g.R.Rows.row_call c.args.env.now.callees.items c.args.n)) (optional_value (option_map view c.args.next.now) (calls_at c.args.env.now.tables g.R.Rows.row_call c.args.env.now.callees.items c.args.n))) (seen_state c.loop-v.state) _ _ _ _ _ _ (omega arith) c.in_ok-v.ensures c.if-not-v.false c.in_ok-spend.ensures (step_done (act (view_stmt c.args.s.now) (seen_all c.args.taken.now) (calls_at c.args.env.now.tables g.R.Rows.row_call c.args.env.now.callees.items c.args.n)) (optional_value (option_map view c.args.next.now) (calls_at c.args.env.now.tables g.R.Rows.row_call c.args.env.now.callees.items c.args.n)) (seen_state c.spend.new.self) _ _ _ _ c.in_ok-act.ensures c.in-Next.is c.in_ok-optional_step.ensures) (inl refl)
+    c.loop-v.invariant ∙ loop_turn c.loop-v.most (optional_condition (option_map view c.args.c.now) (calls_at c.args.env.now.tables g.R.Rows.row_call c.args.env.now.callees.items c.args.n)) (with_step (scoped (act (view_stmt c.args.s.now) (seen_all c.args.taken.now) (calls_at c.args.env.now.tables g.R.Rows.row_call c.args.env.now.callees.items c.args.n))) (optional_value (option_map view c.args.next.now) (calls_at c.args.env.now.tables g.R.Rows.row_call c.args.env.now.callees.items c.args.n))) (seen_state c.loop-v.state) _ _ _ _ _ _ (omega arith) c.in_ok-v.ensures c.if-not-v.false c.in_ok-spend.ensures (step_done (scoped (act (view_stmt c.args.s.now) (seen_all c.args.taken.now) (calls_at c.args.env.now.tables g.R.Rows.row_call c.args.env.now.callees.items c.args.n))) (optional_value (option_map view c.args.next.now) (calls_at c.args.env.now.tables g.R.Rows.row_call c.args.env.now.callees.items c.args.n)) (seen_state c.spend.new.self) _ _ _ _ c.in_ok-in_scope.ensures c.in-Next.is c.in_ok-optional_step.ensures) (inl refl)
 
 pub turns_after-returns-in_err-spend : goal.turns_after-returns-in_err-spend
 turns_after-returns-in_err-spend g t c =
-    rw (c.loop-most.invariant ∙ after_spends c.loop-most.most (condition (expression (view c.args.c.now) (calls_at c.args.env.now.tables g.R.Rows.row_call c.args.env.now.callees.items c.args.n))) (act (view_stmt c.args.s.now) (seen_all c.args.taken.now) (calls_at c.args.env.now.tables g.R.Rows.row_call c.args.env.now.callees.items c.args.n)) (seen_state c.loop-most.state) (omega arith)) (search (rules, common_steps))
+    rw (c.loop-most.invariant ∙ after_spends c.loop-most.most (condition (expression (view c.args.c.now) (calls_at c.args.env.now.tables g.R.Rows.row_call c.args.env.now.callees.items c.args.n))) (scoped (act (view_stmt c.args.s.now) (seen_all c.args.taken.now) (calls_at c.args.env.now.tables g.R.Rows.row_call c.args.env.now.callees.items c.args.n))) (seen_state c.loop-most.state) (omega arith)) (search (rules, common_steps))
 
-pub turns_after-returns-in_err-act : goal.turns_after-returns-in_err-act
-turns_after-returns-in_err-act g t c =
-    rw (c.loop-most.invariant ∙ after_enters c.loop-most.most (condition (expression (view c.args.c.now) (calls_at c.args.env.now.tables g.R.Rows.row_call c.args.env.now.callees.items c.args.n))) (act (view_stmt c.args.s.now) (seen_all c.args.taken.now) (calls_at c.args.env.now.tables g.R.Rows.row_call c.args.env.now.callees.items c.args.n)) (seen_state c.loop-most.state) _ _ (omega arith) c.in_ok-spend.ensures) (search (rules, common_steps))
+pub turns_after-returns-in_err-in_scope : goal.turns_after-returns-in_err-in_scope
+turns_after-returns-in_err-in_scope g t c =
+    rw (c.loop-most.invariant ∙ after_enters c.loop-most.most (condition (expression (view c.args.c.now) (calls_at c.args.env.now.tables g.R.Rows.row_call c.args.env.now.callees.items c.args.n))) (scoped (act (view_stmt c.args.s.now) (seen_all c.args.taken.now) (calls_at c.args.env.now.tables g.R.Rows.row_call c.args.env.now.callees.items c.args.n))) (seen_state c.loop-most.state) _ _ (omega arith) c.in_ok-spend.ensures) (search (rules, common_steps))
 
 pub turns_after-returns-in-Broke : goal.turns_after-returns-in-Broke
 turns_after-returns-in-Broke g t c =
-    rw (c.loop-most.invariant ∙ after_enters c.loop-most.most (condition (expression (view c.args.c.now) (calls_at c.args.env.now.tables g.R.Rows.row_call c.args.env.now.callees.items c.args.n))) (act (view_stmt c.args.s.now) (seen_all c.args.taken.now) (calls_at c.args.env.now.tables g.R.Rows.row_call c.args.env.now.callees.items c.args.n)) (seen_state c.loop-most.state) _ _ (omega arith) c.in_ok-spend.ensures) (search (rules, common_steps))
+    rw (c.loop-most.invariant ∙ after_enters c.loop-most.most (condition (expression (view c.args.c.now) (calls_at c.args.env.now.tables g.R.Rows.row_call c.args.env.now.callees.items c.args.n))) (scoped (act (view_stmt c.args.s.now) (seen_all c.args.taken.now) (calls_at c.args.env.now.tables g.R.Rows.row_call c.args.env.now.callees.items c.args.n))) (seen_state c.loop-most.state) _ _ (omega arith) c.in_ok-spend.ensures) (search (rules, common_steps))
 
 pub turns_after-returns-in-Returned : goal.turns_after-returns-in-Returned
 turns_after-returns-in-Returned g t c =
-    rw (c.loop-most.invariant ∙ after_enters c.loop-most.most (condition (expression (view c.args.c.now) (calls_at c.args.env.now.tables g.R.Rows.row_call c.args.env.now.callees.items c.args.n))) (act (view_stmt c.args.s.now) (seen_all c.args.taken.now) (calls_at c.args.env.now.tables g.R.Rows.row_call c.args.env.now.callees.items c.args.n)) (seen_state c.loop-most.state) _ _ (omega arith) c.in_ok-spend.ensures) (search (rules, common_steps))
+    rw (c.loop-most.invariant ∙ after_enters c.loop-most.most (condition (expression (view c.args.c.now) (calls_at c.args.env.now.tables g.R.Rows.row_call c.args.env.now.callees.items c.args.n))) (scoped (act (view_stmt c.args.s.now) (seen_all c.args.taken.now) (calls_at c.args.env.now.tables g.R.Rows.row_call c.args.env.now.callees.items c.args.n))) (seen_state c.loop-most.state) _ _ (omega arith) c.in_ok-spend.ensures) (search (rules, common_steps))
 
 pub turns_after-returns-in_err-v : goal.turns_after-returns-in_err-v
 turns_after-returns-in_err-v g t c =
-    rw (c.loop-most.invariant ∙ after_tests c.loop-most.most (condition (expression (view c.args.c.now) (calls_at c.args.env.now.tables g.R.Rows.row_call c.args.env.now.callees.items c.args.n))) (act (view_stmt c.args.s.now) (seen_all c.args.taken.now) (calls_at c.args.env.now.tables g.R.Rows.row_call c.args.env.now.callees.items c.args.n)) (seen_state c.loop-most.state) _ _ _ _ (omega arith) c.in_ok-spend.ensures c.in_ok-act.ensures c.in-Next.is) (search (rules, common_steps))
+    rw (c.loop-most.invariant ∙ after_tests c.loop-most.most (condition (expression (view c.args.c.now) (calls_at c.args.env.now.tables g.R.Rows.row_call c.args.env.now.callees.items c.args.n))) (scoped (act (view_stmt c.args.s.now) (seen_all c.args.taken.now) (calls_at c.args.env.now.tables g.R.Rows.row_call c.args.env.now.callees.items c.args.n))) (seen_state c.loop-most.state) _ _ _ _ (omega arith) c.in_ok-spend.ensures c.in_ok-in_scope.ensures c.in-Next.is) (search (rules, common_steps))
 
 pub turns_after-returns-then-not-v : goal.turns_after-returns-then-not-v
 turns_after-returns-then-not-v g t c =
-    rw (c.loop-most.invariant ∙ after_tests c.loop-most.most (condition (expression (view c.args.c.now) (calls_at c.args.env.now.tables g.R.Rows.row_call c.args.env.now.callees.items c.args.n))) (act (view_stmt c.args.s.now) (seen_all c.args.taken.now) (calls_at c.args.env.now.tables g.R.Rows.row_call c.args.env.now.callees.items c.args.n)) (seen_state c.loop-most.state) _ _ _ _ (omega arith) c.in_ok-spend.ensures c.in_ok-act.ensures c.in-Next.is) (search (rules, common_steps))
+    rw (c.loop-most.invariant ∙ after_tests c.loop-most.most (condition (expression (view c.args.c.now) (calls_at c.args.env.now.tables g.R.Rows.row_call c.args.env.now.callees.items c.args.n))) (scoped (act (view_stmt c.args.s.now) (seen_all c.args.taken.now) (calls_at c.args.env.now.tables g.R.Rows.row_call c.args.env.now.callees.items c.args.n))) (seen_state c.loop-most.state) _ _ _ _ (omega arith) c.in_ok-spend.ensures c.in_ok-in_scope.ensures c.in-Next.is) (search (rules, common_steps))
 
 pub turns_after-loop-most-preserved : goal.turns_after-loop-most-preserved
 turns_after-loop-most-preserved g t c =
-    c.loop-most.invariant ∙ after_turn c.loop-most.most (condition (expression (view c.args.c.now) (calls_at c.args.env.now.tables g.R.Rows.row_call c.args.env.now.callees.items c.args.n))) (act (view_stmt c.args.s.now) (seen_all c.args.taken.now) (calls_at c.args.env.now.tables g.R.Rows.row_call c.args.env.now.callees.items c.args.n)) (seen_state c.loop-most.state) _ _ _ _ _ _ (omega arith) c.in_ok-spend.ensures c.in_ok-act.ensures c.in-Next.is c.in_ok-v.ensures c.if-not-v.false
+    c.loop-most.invariant ∙ after_turn c.loop-most.most (condition (expression (view c.args.c.now) (calls_at c.args.env.now.tables g.R.Rows.row_call c.args.env.now.callees.items c.args.n))) (scoped (act (view_stmt c.args.s.now) (seen_all c.args.taken.now) (calls_at c.args.env.now.tables g.R.Rows.row_call c.args.env.now.callees.items c.args.n))) (seen_state c.loop-most.state) _ _ _ _ _ _ (omega arith) c.in_ok-spend.ensures c.in_ok-in_scope.ensures c.in-Next.is c.in_ok-v.ensures c.if-not-v.false
 
 pub values-loop-e-preserved : goal.values-loop-e-preserved
 values-loop-e-preserved g t c =
@@ -181,8 +177,8 @@ act-returns-in-While g t c =
     let trees = seen_all c.args.taken.now in
     let here = seen_state c.args.state.now in
     let rolled : view_stmt (code.While c.in-While.c c.in-While.s) ≡ While (view c.in-While.c) (view_stmt c.in-While.s.value) = ap view_stmt (sym (rolls-While c.in-While.c c.in-While.s)) ∙ fold-roll-Stmt Statement stmt_step (Stmt-F.While c.in-While.c c.in-While.s) in
-    let same : act (view_stmt c.args.s.now) trees calls here ≡ loops c.args.state.now.left (condition (expression (view c.in-While.c) calls)) (act (view_stmt c.deref-in-While.result.now) (parts_of trees) calls) here =
-    ap (λ (x : Stmt). act (view_stmt x) trees calls here) c.in-While.is ∙ ap (λ x. act x trees calls here) rolled ∙ ap (λ (x : Stmt). loops c.args.state.now.left (condition (expression (view c.in-While.c) calls)) (act (view_stmt x) (parts_of trees) calls) here) (sym c.deref-in-While.ensures) in
+    let same : act (view_stmt c.args.s.now) trees calls here ≡ loops c.args.state.now.left (condition (expression (view c.in-While.c) calls)) (scoped (act (view_stmt c.deref-in-While.result.now) (parts_of trees) calls)) here =
+    ap (λ (x : Stmt). act (view_stmt x) trees calls here) c.in-While.is ∙ ap (λ x. act x trees calls here) rolled ∙ ap (λ (x : Stmt). loops c.args.state.now.left (condition (expression (view c.in-While.c) calls)) (scoped (act (view_stmt x) (parts_of trees) calls)) here) (sym c.deref-in-While.ensures) in
     rw same c.while_loop.ensures
 
 pub act-returns-in-DoWhile : goal.act-returns-in-DoWhile
@@ -191,6 +187,6 @@ act-returns-in-DoWhile g t c =
     let trees = seen_all c.args.taken.now in
     let here = seen_state c.args.state.now in
     let rolled : view_stmt (code.DoWhile c.in-DoWhile.s c.in-DoWhile.c) ≡ DoWhile (view_stmt c.in-DoWhile.s.value) (view c.in-DoWhile.c) = ap view_stmt (sym (rolls-DoWhile c.in-DoWhile.s c.in-DoWhile.c)) ∙ fold-roll-Stmt Statement stmt_step (Stmt-F.DoWhile c.in-DoWhile.s c.in-DoWhile.c) in
-    let same : act (view_stmt c.args.s.now) trees calls here ≡ loops_after c.args.state.now.left (condition (expression (view c.in-DoWhile.c) calls)) (act (view_stmt c.deref-in-DoWhile.result.now) (parts_of trees) calls) here =
-    ap (λ (x : Stmt). act (view_stmt x) trees calls here) c.in-DoWhile.is ∙ ap (λ x. act x trees calls here) rolled ∙ ap (λ (x : Stmt). loops_after c.args.state.now.left (condition (expression (view c.in-DoWhile.c) calls)) (act (view_stmt x) (parts_of trees) calls) here) (sym c.deref-in-DoWhile.ensures) in
+    let same : act (view_stmt c.args.s.now) trees calls here ≡ loops_after c.args.state.now.left (condition (expression (view c.in-DoWhile.c) calls)) (scoped (act (view_stmt c.deref-in-DoWhile.result.now) (parts_of trees) calls)) here =
+    ap (λ (x : Stmt). act (view_stmt x) trees calls here) c.in-DoWhile.is ∙ ap (λ x. act x trees calls here) rolled ∙ ap (λ (x : Stmt). loops_after c.args.state.now.left (condition (expression (view c.in-DoWhile.c) calls)) (scoped (act (view_stmt x) (parts_of trees) calls)) here) (sym c.deref-in-DoWhile.ensures) in
     rw same c.do_loop.ensures

@@ -1,7 +1,7 @@
 use Rattle.std.proofs.Common.{◌≡◌, ◌+◌, ◌++◌, None, map, option_map, take, drop}
 use Rattle.c_tree.specs.View.{view, views, view_declared, view_stmt, view_stmts, view_optional}
 use Rattle.address_taken.specs.Taken.{seen_all}
-use Rattle.c_memory.specs.MeaningState.{then_do, pure}
+use Rattle.c_memory.specs.MeaningState.{then_do, pure, scoped}
 use Rattle.c_memory.specs.Meaning.{condition, expression, last, values, loops, loops_after, with_step, optional_condition, optional_value}
 use Rattle.c_meaning.specs.States.{seen_state}
 use Rattle.c_meaning.specs.Callees.{seen_callee, calls_at}
@@ -17,9 +17,6 @@ decreases-value g l = functions_weight (take l.n (map seen_callee l.env.now.call
 
 abbrev pub decreases-holds : goal.decreases-holds
 decreases-holds g l = functions_weight (take l.n (map seen_callee l.env.now.callees.items)) + weight (view l.e.now) + 2
-
-abbrev pub decreases-half_of_pair : goal.decreases-half_of_pair
-decreases-half_of_pair g l = functions_weight (take l.n (map seen_callee l.env.now.callees.items)) + weight (view l.e.now) + 3
 
 abbrev pub decreases-while_loop : goal.decreases-while_loop
 decreases-while_loop g l = functions_weight (take l.n (map seen_callee l.env.now.callees.items)) + weight (view l.c.now) + statement_weight (view_stmt l.s.now) + 7
@@ -53,6 +50,12 @@ decreases-act g l = functions_weight (take l.n (map seen_callee l.env.now.callee
 
 abbrev pub decreases-optional_act : goal.decreases-optional_act
 decreases-optional_act g l = functions_weight (take l.n (map seen_callee l.env.now.callees.items)) + maybe_weight (view_optional l.s.now) + 1
+
+abbrev pub decreases-in_scope : goal.decreases-in_scope
+decreases-in_scope g l = functions_weight (take l.n (map seen_callee l.env.now.callees.items)) + statement_weight (view_stmt l.s.now) + 1
+
+abbrev pub decreases-optional_body : goal.decreases-optional_body
+decreases-optional_body g l = functions_weight (take l.n (map seen_callee l.env.now.callees.items)) + maybe_weight (view_optional l.s.now) + 2
 
 abbrev pub decreases-sequence : goal.decreases-sequence
 decreases-sequence g l = functions_weight (take l.n (map seen_callee l.env.now.callees.items)) + statements_weight (view_stmts l.all.now) + 1
@@ -102,7 +105,7 @@ abbrev pub invariant-turns-loop-v : goal.invariant-turns-loop-v
 invariant-turns-loop-v g l =
     let c = calls_at l.env.tables g.R.Rows.row_call l.env.callees.items l.n in
     let test = condition (expression (view l.c) c) in
-    let body = act (view_stmt l.s) (seen_all l.taken) c in
+    let body = scoped (act (view_stmt l.s) (seen_all l.taken) c) in
     loops l.initial.most test body (seen_state l.initial.state) ≡ loops l.most test body (seen_state l.state)
 
 abbrev pub decreases-turns-loop-v : goal.decreases-turns-loop-v
@@ -112,7 +115,7 @@ abbrev pub invariant-turns_after-loop-most : goal.invariant-turns_after-loop-mos
 invariant-turns_after-loop-most g l =
     let c = calls_at l.env.tables g.R.Rows.row_call l.env.callees.items l.n in
     let test = condition (expression (view l.c) c) in
-    let body = act (view_stmt l.s) (seen_all l.taken) c in
+    let body = scoped (act (view_stmt l.s) (seen_all l.taken) c) in
     loops_after l.initial.most test body (seen_state l.initial.state) ≡ loops_after l.most test body (seen_state l.state)
 
 abbrev pub decreases-turns_after-loop-most : goal.decreases-turns_after-loop-most
@@ -122,7 +125,7 @@ abbrev pub invariant-turns_with-loop-v : goal.invariant-turns_with-loop-v
 invariant-turns_with-loop-v g l =
     let c = calls_at l.env.tables g.R.Rows.row_call l.env.callees.items l.n in
     let test = optional_condition (option_map view l.c) c in
-    let body = with_step (act (view_stmt l.s) (seen_all l.taken) c) (optional_value (option_map view l.next) c) in
+    let body = with_step (scoped (act (view_stmt l.s) (seen_all l.taken) c)) (optional_value (option_map view l.next) c) in
     loops l.initial.most test body (seen_state l.initial.state) ≡ loops l.most test body (seen_state l.state)
 
 abbrev pub decreases-turns_with-loop-v : goal.decreases-turns_with-loop-v

@@ -3,7 +3,8 @@ use Rattle.std.specs.Prelude.{filter}
 use Rattle.c_tree.specs.View.{view_declared}
 use Rattle.migrate_report.specs.Items.{joined}
 use Rattle.migrate_report.specs.Reading.{view_item}
-use Rattle.migrate_report.specs.Fits.{types_of, arguments, gives_argument}
+use Rattle.c_memory.specs.Functions.{types_of}
+use Rattle.migrate_report.specs.Fits.{arguments, gives_argument}
 use Rattle.migrate_report.proofs.Joins.{skips, takes_on}
 use Rattle.migrate_report.proofs.fits.arguments_of.Goals.{then-gives_argument+in-Some+in_ok-push-in-Some, else-gives_argument}
 use Rattle.migrate_report.proofs.fits.arguments_of.Goals as goal

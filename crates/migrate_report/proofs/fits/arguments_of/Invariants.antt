@@ -3,7 +3,8 @@ use Rattle.std.specs.Prelude.{filter}
 use Rattle.c_tree.specs.View.{view_declared}
 use Rattle.migrate_report.specs.Items.{joined}
 use Rattle.migrate_report.specs.Reading.{view_item}
-use Rattle.migrate_report.specs.Fits.{arguments, types_of, gives_argument}
+use Rattle.c_memory.specs.Functions.{types_of}
+use Rattle.migrate_report.specs.Fits.{arguments, gives_argument}
 use Rattle.migrate_report.proofs.fits.arguments_of.Given as goal
 
 abbrev pub invariant-loop-item : goal.invariant-loop-item

@@ -1,6 +1,6 @@
 use Rattle.std.proofs.Common.{◌≡◌, map, drop}
 use Rattle.c_tree.specs.View.{view_item}
-use Rattle.migrate_report.specs.Fits.{function_named}
+use Rattle.c_memory.specs.Functions.{function_named}
 use Rattle.migrate_report.proofs.fits.function_named.Given as goal
 
 abbrev pub invariant-loop-item : goal.invariant-loop-item
