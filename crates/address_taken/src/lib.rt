@@ -7,5 +7,6 @@ mod names;
 mod taken;
 mod takes;
 
-pub use taken::{FunctionTaken, Taken, address_taken};
+pub use names::Marks;
+pub use taken::{FunctionTaken, Taken, address_taken, taken_and_outside};
 pub use takes::takes_statements;

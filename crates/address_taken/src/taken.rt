@@ -251,12 +251,25 @@ fn taken_statements(
     Ok(out)
 }
 
-/// For each object of the function, whether its address is taken by what its scope has. The only error is want of memory.
-pub fn address_taken(alloc: Global, function: &Function) -> Result<FunctionTaken, AllocError>
-    ensures { IfOk result (λ t. seen_function t ≡ taken_function (view_function function.now)) }
+/// For each object of the function, whether its address is taken by what its scope has, and the names of the objects outside the body, as
+/// tables, whose address the body takes. The only error is want of memory.
+pub fn taken_and_outside(
+    alloc: Global,
+    function: &Function,
+) -> Result<(FunctionTaken, Marks), AllocError>
+    ensures answer { IfOk result (λ t. seen_function t.0 ≡ taken_function (view_function function.now)) }
+    ensures outside { IfOk result (λ t. (x : List ℕ) → is_marked t.1 x ≡ takes_statements x (view_function function.now).body) }
 {
     let mut marks = Marks::new(alloc);
     let body = taken_statements(alloc, &mut marks, function.body.as_slice())?;
     let params = marked_objects(alloc, &marks, function.params.as_slice())?;
-    Ok(FunctionTaken { params, body })
+    Ok((FunctionTaken { params, body }, marks))
+}
+
+/// For each object of the function, whether its address is taken by what its scope has. The only error is want of memory.
+pub fn address_taken(alloc: Global, function: &Function) -> Result<FunctionTaken, AllocError>
+    ensures { IfOk result (λ t. seen_function t ≡ taken_function (view_function function.now)) }
+{
+    let (taken, _outside) = taken_and_outside(alloc, function)?;
+    Ok(taken)
 }

@@ -7,6 +7,7 @@ use expression_types::{
 use std::alloc::Global;
 use std::test::Fail as Wrong;
 use type_rules::{Heading, Parameter};
+use vector_types::{neon_names, rows_of_table};
 
 // An expression with its operators behind their operands, and its type or a refusal: number, column (that of the word), detail.
 // Objects: c char, s unsigned short, i int, k const int, u unsigned, l long, m unsigned long, p int *, q const int *, r unsigned *,
@@ -184,6 +185,8 @@ fn environment(alloc: Global, dialect: Dialect) -> Result<Environment, Wrong> {
     }
     Ok(Environment {
         dialect,
+        rows: rows_of_table(alloc, dialect)?,
+        neon: neon_names(alloc)?,
         outer: Vec::new(alloc),
         innermost,
         functions,

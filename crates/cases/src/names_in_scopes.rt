@@ -6,6 +6,8 @@ use std::test::Fail;
 fn inner_names_hide_outer_ones(rt: HostRuntime) -> Result<(), Fail> {
     let mut env = Environment {
         dialect: Dialect::X86,
+        rows: Names::new(rt.alloc()),
+        neon: Names::new(rt.alloc()),
         outer: Vec::new(rt.alloc()),
         innermost: Names::new(rt.alloc()),
         functions: Names::new(rt.alloc()),

@@ -7,6 +7,7 @@ use object_types::{
 };
 use std::alloc::Global;
 use std::test::Fail as Wrong;
+use vector_types::{neon_names, rows_of_table};
 
 // A name, a type, a length, an alignment, a value and a list, `-` where there is none, and the object's type afterwards or a refusal:
 // number, column, detail. The name is at column 10, the length at 20, the value at 30, the list at 40 on. The alignment is at column 10 too, as where
@@ -129,6 +130,8 @@ fn declared(alloc: Global, row: &str) -> Result<Declared, Wrong> {
 fn outcome(alloc: Global, row: &str) -> Result<String, Wrong> {
     let mut env = Environment {
         dialect: Dialect::X86,
+        rows: rows_of_table(alloc, Dialect::X86)?,
+        neon: neon_names(alloc)?,
         outer: Vec::new(alloc),
         innermost: Names::new(alloc),
         functions: Names::new(alloc),

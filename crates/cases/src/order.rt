@@ -1,9 +1,12 @@
 //! Full expressions on either side of the order rule, and what a function with them may do.
 
 use c_tree::{BinOp, CType, Declared, Expr, ExprKind, IntType, Num, Place, Stmt, Text};
-use order_rule::{Effects, Fail, Function, Names, check_order, effects, passing_is_by_the_rules};
+use order_rule::{
+    Callees, Effects, Fail, Function, Names, check_order, effects, passing_is_by_the_rules,
+};
 use std::alloc::{AllocError, Global};
 use std::test::Fail as Wrong;
+use vector_types::{Dialect, rows_of_table};
 
 // Expressions in reversed Polish notation; then what a function with the expression may do, S for storing and R for reading memory; then
 // `ok`, or the column and the mark of what is refused. A column counts the words. The address of `m` is taken later in the function. `f` may
@@ -171,7 +174,7 @@ fn add(
     Ok(())
 }
 
-fn outcome(alloc: Global, words: &str, callees: &Names<Effects>) -> Result<String, Wrong> {
+fn outcome(alloc: Global, words: &str, callees: &Callees) -> Result<String, Wrong> {
     let function = function(alloc, words)?;
     let may = effects(alloc, &function, callees)?;
     let stores = if may.stores { 'S' } else { '-' };
@@ -188,10 +191,15 @@ fn outcome(alloc: Global, words: &str, callees: &Names<Effects>) -> Result<Strin
 
 #[test]
 fn expressions_and_refusals(rt: HostRuntime) -> Result<(), Wrong> {
-    let mut callees = Names::new(rt.alloc());
-    add(rt.alloc(), &mut callees, b"f", true, false)?;
-    add(rt.alloc(), &mut callees, b"g", false, true)?;
-    add(rt.alloc(), &mut callees, b"h", false, false)?;
+    let mut before = Names::new(rt.alloc());
+    add(rt.alloc(), &mut before, b"f", true, false)?;
+    add(rt.alloc(), &mut before, b"g", false, true)?;
+    add(rt.alloc(), &mut before, b"h", false, false)?;
+    let rows = rows_of_table(rt.alloc(), Dialect::X86)?;
+    let callees = Callees {
+        before: &before,
+        rows: &rows,
+    };
     for row in ROWS.lines() {
         let (words, want) = row.split_once(" -> ").ok_or("malformed")?;
         assert_eq!(rt;

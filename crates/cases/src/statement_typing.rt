@@ -7,6 +7,7 @@ use statement_types::{
 };
 use std::alloc::Global;
 use std::test::Fail as Wrong;
+use vector_types::{neon_names, rows_of_table};
 
 // What the function gives, statements, and `ok` or a refusal: number, column, detail. Each word is a statement at the column that counts
 // these words: a declaration of an `int` (`int:x`), an expression (`x`), `break`, `continue`, `return`, `return:x`, and with one of these
@@ -142,6 +143,8 @@ fn body(alloc: Global, words: &str) -> Result<Vec<Stmt>, Wrong> {
 fn outcome(alloc: Global, row: &str) -> Result<String, Wrong> {
     let mut env = Environment {
         dialect: Dialect::X86,
+        rows: rows_of_table(alloc, Dialect::X86)?,
+        neon: neon_names(alloc)?,
         outer: Vec::new(alloc),
         innermost: Names::new(alloc),
         functions: Names::new(alloc),

@@ -16,9 +16,9 @@ use Rattle.type_rules.specs.Operations.{result_of, name_node}
 use Rattle.type_rules.specs.Passing.{passed, immediate_of}
 use Rattle.type_rules.specs.Rules.{IsObjectOf, an_integer, a_vector, a_wide_vector, Results, Passed}
 use Rattle.scopes.specs.declared.environment.Object.{Object}
-use Rattle.scopes.specs.Scopes.{Env, Callee, named, object_named}
+use Rattle.scopes.specs.Scopes.{Env, Callee, Row, named, object_named}
 use Rattle.expression_types.specs.Marks.{short}
-use Rattle.expression_types.specs.Names.{Row, row_named, is_unknown_intrinsic, Target}
+use Rattle.expression_types.specs.Names.{is_unknown_intrinsic, Target}
 use Rattle.expression_types.specs.Objects.{designated, may_write, is_writable, pointee_of, addressed}
 use Rattle.expression_types.specs.Check.{◌>>=◌, refuse, typed, admitted, called, object_called, function_called, row_called, immediate_fits, call, check, check_all}
 use Rattle.expression_types.specs.Typed as t
@@ -83,7 +83,7 @@ function-called f p env c u n g o =
     ap (λ b. if b then refuse 13 p (short f) else object_called f p env (object_named f env)) u ∙ ap (object_called f p env) n ∙ ap (function_called f p env) g ∙
     ap (λ b. if b then Ok (record { heading = c.heading; range = NoImmediate; outside = env.calls_none }) else refuse 17 p (short f)) (lt-ltb c.order env.here o)
 
-row-called : (f : List ℕ) (p : Place) (env : Env) (r : Row) → is_unknown_intrinsic f env ≡ false → object_named f env ≡ None → named f env.functions ≡ None → row_named env.dialect f ≡ Some r →
+row-called : (f : List ℕ) (p : Place) (env : Env) (r : Row) → is_unknown_intrinsic f env ≡ false → object_named f env ≡ None → named f env.functions ≡ None → env.rows f ≡ Some r →
     called f p env ≡ Ok (record { heading = r.heading; range = r.range; outside = false })
 row-called f p env r u n g h =
     ap (λ b. if b then refuse 13 p (short f) else object_called f p env (object_named f env)) u ∙ ap (object_called f p env) n ∙ ap (function_called f p env) g ∙ ap (row_called f p env) h

@@ -20,9 +20,9 @@ use Rattle.type_rules.specs.Operations.{result_of, name_node, step_node, assign_
 use Rattle.type_rules.specs.Passing.{passed, immediate_of, is_in_range}
 use Rattle.type_rules.specs.Rules.{IsObjectOf, an_integer, a_vector, a_wide_vector, Results, Passed}
 use Rattle.scopes.specs.declared.environment.Object.{Object}
-use Rattle.scopes.specs.Scopes.{Env, Callee, named, object_named}
+use Rattle.scopes.specs.Scopes.{Env, Callee, Row, named, object_named}
 use Rattle.expression_types.specs.Marks.{short, mark}
-use Rattle.expression_types.specs.Names.{Row, row_named, is_widening, widening, is_unknown_intrinsic, is_function, Target}
+use Rattle.expression_types.specs.Names.{is_widening, widening, is_unknown_intrinsic, is_function, Target}
 use Rattle.expression_types.specs.Objects.{pointed_const, indexed_const, designated, designated_kind, may_write, is_writable, pointee_of, addressed, address_node}
 use Rattle.expression_types.specs.Check.{◌>>=◌, Checked, refuse, typed, admitted, used, used_as, called, object_called, function_called, row_called, fitting, in_range, immediate_fits, call, check, check_kind, check_all}
 use Rattle.expression_types.specs.Typed as t
@@ -152,7 +152,7 @@ known None h = cc
 -- what is called
 pub data Callable (f : List ℕ) (env : Env) : Target → Type 0 where
   a_function : (c : Callee) → object_named f env ≡ None → named f env.functions ≡ Some c → c.order < env.here → Callable f env (record { heading = c.heading; range = NoImmediate; outside = env.calls_none })
-  a_row : (r : Row) → object_named f env ≡ None → named f env.functions ≡ None → row_named env.dialect f ≡ Some r → Callable f env (record { heading = r.heading; range = r.range; outside = false })
+  a_row : (r : Row) → object_named f env ≡ None → named f env.functions ≡ None → env.rows f ≡ Some r → Callable f env (record { heading = r.heading; range = r.range; outside = false })
   no_row : (target : Target) → target.outside ≡ true → Callable f env target
 
 module _ (f : List ℕ) (p : Place) (env : Env) (v : Target) where
@@ -160,7 +160,7 @@ module _ (f : List ℕ) (p : Place) (env : Env) (v : Target) where
   widening-says true h = becomes (Callable f env) (record { heading = widening; range = NoImmediate; outside = true }) v h (no_row _ refl)
   widening-says false h = cc
 
-  row-says : object_named f env ≡ None → named f env.functions ≡ None → (m : Option Row) → row_named env.dialect f ≡ m → row_called f p env m ≡ Ok v → Callable f env v
+  row-says : object_named f env ≡ None → named f env.functions ≡ None → (m : Option Row) → env.rows f ≡ m → row_called f p env m ≡ Ok v → Callable f env v
   row-says n g (Some r) e h = becomes (Callable f env) (record { heading = r.heading; range = r.range; outside = false }) v h (a_row r n g e)
   row-says n g None e h = widening-says (is_widening env.dialect f) h
 
@@ -171,7 +171,7 @@ module _ (f : List ℕ) (p : Place) (env : Env) (v : Target) where
 
   function-says : object_named f env ≡ None → (m : Option Callee) → named f env.functions ≡ m → function_called f p env m ≡ Ok v → Callable f env v
   function-says n (Some c) g h = before-says c n g (nat_lt c.order env.here) refl h
-  function-says n None g h = row-says n g (row_named env.dialect f) refl h
+  function-says n None g h = row-says n g (env.rows f) refl h
 
   object-says : (m : Option Object) → object_named f env ≡ m → object_called f p env m ≡ Ok v → Callable f env v
   object-says (Some o) n h = cc

@@ -19,9 +19,9 @@ use Rattle.type_rules.specs.Types.{node_place, read_type, is_void_pointer}
 use Rattle.type_rules.specs.Operations.{constant_node, name_node, unary_node, step_node, binary_node, and_node, or_node, choice_node, assign_node, comma_node, cast_node, index_node, deref_node, half_node, pair_node, size_node, size_of_name_node}
 use Rattle.type_rules.specs.Passing.{passed, immediate_of, is_in_range}
 use Rattle.scopes.specs.declared.environment.Object.{Object}
-use Rattle.scopes.specs.Scopes.{Env, Callee, named, object_named}
+use Rattle.scopes.specs.Scopes.{Env, Callee, Row, named, object_named}
 use Rattle.expression_types.specs.Marks.{short, mark_of, mark}
-use Rattle.expression_types.specs.Names.{Row, row_named, is_widening, widening, is_unknown_intrinsic, is_function, Target}
+use Rattle.expression_types.specs.Names.{is_widening, widening, is_unknown_intrinsic, is_function, Target}
 use Rattle.expression_types.specs.Objects.{is_writable, address_node}
 
 abbrev pub Checked : Type 0 → Type 0
@@ -69,7 +69,7 @@ row_called x p env None = if is_widening env.dialect x then Ok (record { heading
 
 abbrev pub function_called : List ℕ → Place → Env → Option Callee → Checked Target
 function_called x p env (Some f) = if nat_lt f.order env.here then Ok (record { heading = f.heading; range = NoImmediate; outside = env.calls_none }) else refuse 17 p (short x)
-function_called x p env None = row_called x p env (row_named env.dialect x)
+function_called x p env None = row_called x p env (env.rows x)
 
 abbrev pub object_called : List ℕ → Place → Env → Option Object → Checked Target
 object_called x p env (Some o) = refuse 11 p (short x)

@@ -20,8 +20,8 @@ use Rattle.type_rules.specs.Types.{node_type, read_type}
 use Rattle.type_rules.specs.Passing.{immediate_of, is_in_range}
 use Rattle.type_rules.specs.Rules.{HasInteger, HasPointer, IsObjectOf, Results, Passed}
 use Rattle.scopes.specs.declared.environment.Object.{Object}
-use Rattle.scopes.specs.Scopes.{Env, Callee, named, object_named}
-use Rattle.expression_types.specs.Names.{Row, row_named, is_unknown_intrinsic}
+use Rattle.scopes.specs.Scopes.{Env, Callee, Row, named, object_named}
+use Rattle.expression_types.specs.Names.{is_unknown_intrinsic}
 use Rattle.expression_types.specs.Check.{read_number}
 
 -- the expression, which has its types, designates an object that is const or not (6.3.2.1p1, 6.5.2.1, 6.5.3.2p4)
@@ -80,7 +80,7 @@ mutual
     -- calls (6.5.2.2) of functions of the unit that stand before, where the profile has them, and of rows of the table
     call_of_function : (p : Place) (t : CType) (f : List ℕ) (c : Callee) (all all' args : Trees) → is_unknown_intrinsic f env ≡ false → object_named f env ≡ None → named f env.functions ≡ Some c →
         c.order < env.here → env.calls_none ≡ false → TypedAll env all all' → Passed c.heading.params all' args → Immediate NoImmediate (immediate_of c.heading.params args) → Typed env (Node p t (tree.Call f all)) (Node p c.heading.result (tree.Call f args))
-    call_of_row : (p : Place) (t : CType) (f : List ℕ) (r : Row) (all all' args : Trees) → is_unknown_intrinsic f env ≡ false → object_named f env ≡ None → named f env.functions ≡ None → row_named env.dialect f ≡ Some r →
+    call_of_row : (p : Place) (t : CType) (f : List ℕ) (r : Row) (all all' args : Trees) → is_unknown_intrinsic f env ≡ false → object_named f env ≡ None → named f env.functions ≡ None → env.rows f ≡ Some r →
         TypedAll env all all' → Passed r.heading.params all' args → Immediate r.range (immediate_of r.heading.params args) → Typed env (Node p t (tree.Call f all)) (Node p r.heading.result (tree.Call f args))
 
   pub data TypedAll (env : Env) : Trees → Trees → Type 0 where

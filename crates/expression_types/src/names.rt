@@ -1,25 +1,17 @@
 //! What names stand for.
 
-ghost use Rattle.std.specs.Prelude.{◌≡◌, IfOk, true, option_map, is_some, take, codes, ◌≤◌};
+ghost use Rattle.std.specs.Prelude.{◌≡◌, IfOk, true, take};
 ghost use Rattle.lane_core.specs.declared.table.ImmRange.TheVariants.{NoImmediate};
-ghost use Rattle.scopes.specs.Scopes.{env_of, named, same_name};
-ghost use Rattle.type_rules.specs.Passing.{heading};
-ghost use Rattle.expression_types.specs.Names.{row_named, row_of, target_of, is_widening, widening, is_unknown_intrinsic, is_function};
-ghost use Rattle.expression_types.specs.Check.{Gives, used, used_as, called, object_called, function_called, row_called};
+ghost use Rattle.scopes.specs.Scopes.{env_of, named};
+ghost use Rattle.expression_types.specs.Names.{target_of, is_widening, widening, is_unknown_intrinsic, is_function};
+ghost use Rattle.expression_types.specs.Check.{Gives, used, called, function_called, row_called};
 
 use crate::marks::name_fault;
 use c_text::{Dialect, Fail, Place, Text};
 use c_tree::CType;
 use scopes::{Environment, Object};
 use std::alloc::{AllocError, Global};
-use type_rules::{Heading, ImmRange, Parameter, row_heading};
-
-/// A row as calls see it.
-#[derive(Drop)]
-struct Row {
-    heading: Heading,
-    range: ImmRange,
-}
+use type_rules::{Heading, ImmRange, Parameter};
 
 /// What is called.
 #[derive(Drop)]
@@ -32,39 +24,6 @@ pub struct Target {
 }
 
 const WIDENING: &[u8] = b"_mm256_castsi128_si256";
-
-// Whether the dialect's table has a row of this name.
-fn is_row(dialect: Dialect, name: &[u8]) -> bool
-    ensures { result ≡ is_some (row_named dialect name.now) }
-{
-    match dialect {
-        Dialect::X86 => intel_table::find(name).is_some(),
-        Dialect::Neon => neon_table::find(name).is_some(),
-    }
-}
-
-fn row_named(alloc: Global, dialect: Dialect, name: &[u8]) -> Result<Option<Row>, AllocError>
-    ensures { IfOk result (λ r. option_map row_of r ≡ row_named dialect name.now) }
-{
-    match dialect {
-        Dialect::X86 => match intel_table::find(name) {
-            None => Ok(None),
-            Some(op) => {
-                let heading = row_heading(alloc, &intel_table::signature(op))?;
-                let range = intel_table::range(op);
-                Ok(Some(Row { heading, range }))
-            }
-        },
-        Dialect::Neon => match neon_table::find(name) {
-            None => Ok(None),
-            Some(op) => {
-                let heading = row_heading(alloc, &neon_table::signature(op))?;
-                let range = neon_table::range(op);
-                Ok(Some(Row { heading, range }))
-            }
-        },
-    }
-}
 
 fn is_widening(dialect: Dialect, name: &[u8]) -> bool
     ensures { result ≡ is_widening dialect name.now }
@@ -100,13 +59,13 @@ fn front(name: &[u8]) -> &[u8]
 fn is_unknown_intrinsic(env: &Environment, name: &[u8]) -> bool
     ensures { result ≡ is_unknown_intrinsic name.now (env_of env.now) }
 {
-    front(name) == b"_mm".as_slice() && !is_row(env.dialect, name) && name != WIDENING
+    front(name) == b"_mm".as_slice() && !env.row(name).is_some() && name != WIDENING
 }
 
 fn is_function(env: &Environment, name: &[u8]) -> bool
     ensures { result ≡ is_function name.now (env_of env.now) }
 {
-    env.function(name).is_some() || is_row(env.dialect, name) || is_widening(env.dialect, name)
+    env.function(name).is_some() || env.row(name).is_some() || is_widening(env.dialect, name)
 }
 
 /// The object that the name stands for. A function's name is refused 18, any other that nothing declares 10.
@@ -124,11 +83,11 @@ pub fn used(alloc: Global, env: &Environment, place: Place, name: &Text) -> Resu
 }
 
 fn row_called(alloc: Global, env: &Environment, place: Place, name: &Text) -> Result<Target, Fail>
-    ensures { Gives target_of result (row_called name.now place (env_of env.now) (row_named env.now.dialect name.now)) }
+    ensures { Gives target_of result (row_called name.now place (env_of env.now) ((env_of env.now).rows name.now)) }
 {
-    match row_named(alloc, env.dialect, name.bytes())? {
+    match env.row(name.bytes()) {
         Some(row) => Ok(Target {
-            heading: row.heading,
+            heading: row.heading.copy(alloc)?,
             range: row.range,
             outside: false,
         }),

@@ -1,6 +1,6 @@
 //! The group of the rows of `intel_base` that work lane by lane.
 
-ghost use Rattle.std.specs.Prelude.{◌≡◌, find};
+ghost use Rattle.std.specs.Prelude.{◌≡◌, ◌+◌, ◌<◌, ◌∷◌, find, drop, length};
 ghost use Rattle.row_names.specs.Names.{same_name};
 ghost use Rattle.intel_table.specs.BaseRows.{base_row, base_rows};
 
@@ -29,6 +29,19 @@ macro_rules! base_group {
 }
 
 static ROWS: &[(&str, BaseOp)] = base_group!(names_and_rows);
+
+pub fn count() -> usize
+    ensures { result ≡ length base_rows }
+{
+    ROWS.len()
+}
+
+pub fn at(k: usize) -> BaseOp
+    requires { k < length base_rows }
+    ensures { drop k base_rows ≡ result ∷ drop (k + 1) base_rows }
+{
+    ROWS[k].1
+}
 
 pub fn find(name: &[u8]) -> Option<BaseOp>
     ensures { result ≡ find (λ op. same_name (base_row op).name name.now) base_rows }

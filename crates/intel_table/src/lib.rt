@@ -1,10 +1,10 @@
 //! The table of Intel rows: names, signatures, immediates, accesses and values.
 #![tactic(auto)]
 
-ghost use Rattle.std.specs.Prelude.{◌≡◌, ◌↔◌, IsNone, IfSome, Contains, Some};
+ghost use Rattle.std.specs.Prelude.{◌≡◌, ◌+◌, ◌<◌, ◌∷◌, ◌↔◌, IsNone, IfSome, Contains, Some, drop, length};
 ghost use Rattle.lane_core.specs.Table.{Fits, InImmRange};
 ghost use Rattle.intel_table.specs.declared.IntelOp.{IntelOp};
-ghost use Rattle.intel_table.specs.Rows.{names, find_of, name_of, signature_of, range_of, accesses_of, access_of, eval_of};
+ghost use Rattle.intel_table.specs.Rows.{rows, names, find_of, name_of, signature_of, range_of, accesses_of, access_of, eval_of};
 
 use intel_base::{BaseOp, MemoryOp};
 use lane_core::table::{Access, Arg, ImmRange, Sig};
@@ -46,6 +46,30 @@ pub fn find(name: &[u8]) -> Option<IntelOp>
             }),
             None => None,
         },
+    }
+}
+
+/// How many rows the table has.
+pub fn count() -> usize
+    ensures { result ≡ length rows }
+{
+    base::count() + memory::count()
+}
+
+/// Row `k` of the table's list, counted from 0.
+pub fn at(k: usize) -> IntelOp
+    requires { k < length rows }
+    ensures { drop k rows ≡ result ∷ drop (k + 1) rows }
+{
+    let first = base::count();
+    if k < first {
+        IntelOp {
+            row: Group::Base(base::at(k)),
+        }
+    } else {
+        IntelOp {
+            row: Group::Memory(memory::at(k - first)),
+        }
     }
 }
 

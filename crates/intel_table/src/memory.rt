@@ -1,6 +1,6 @@
 //! The group of the rows of `intel_base` that read or store a register.
 
-ghost use Rattle.std.specs.Prelude.{◌≡◌, find};
+ghost use Rattle.std.specs.Prelude.{◌≡◌, ◌+◌, ◌<◌, ◌∷◌, find, drop, length};
 ghost use Rattle.row_names.specs.Names.{same_name};
 ghost use Rattle.intel_table.specs.MemoryRows.{memory_row, memory_rows};
 
@@ -28,6 +28,19 @@ macro_rules! memory_group {
 }
 
 static ROWS: &[(&str, MemoryOp)] = memory_group!(names_and_rows);
+
+pub fn count() -> usize
+    ensures { result ≡ length memory_rows }
+{
+    ROWS.len()
+}
+
+pub fn at(k: usize) -> MemoryOp
+    requires { k < length memory_rows }
+    ensures { drop k memory_rows ≡ result ∷ drop (k + 1) memory_rows }
+{
+    ROWS[k].1
+}
 
 pub fn find(name: &[u8]) -> Option<MemoryOp>
     ensures { result ≡ find (λ op. same_name (memory_row op).name name.now) memory_rows }

@@ -1,6 +1,6 @@
 //! The group of the rows of `neon_lane`.
 
-ghost use Rattle.std.specs.Prelude.{◌≡◌, find};
+ghost use Rattle.std.specs.Prelude.{◌≡◌, ◌+◌, ◌<◌, ◌∷◌, find, drop, length};
 ghost use Rattle.row_names.specs.Names.{same_name};
 ghost use Rattle.neon_table.specs.LaneRows.{lane_row, lane_rows};
 
@@ -30,6 +30,19 @@ macro_rules! lane_group {
 }
 
 static ROWS: &[(&str, LaneOp)] = lane_group!(names_and_rows);
+
+pub fn count() -> usize
+    ensures { result ≡ length lane_rows }
+{
+    ROWS.len()
+}
+
+pub fn at(k: usize) -> LaneOp
+    requires { k < length lane_rows }
+    ensures { drop k lane_rows ≡ result ∷ drop (k + 1) lane_rows }
+{
+    ROWS[k].1
+}
 
 pub fn find(name: &[u8]) -> Option<LaneOp>
     ensures { result ≡ find (λ op. same_name (lane_row op).name name.now) lane_rows }

@@ -1,10 +1,10 @@
 //! The table of Neon rows: names, signatures, constants, accesses and values.
 #![tactic(auto)]
 
-ghost use Rattle.std.specs.Prelude.{◌≡◌, ◌↔◌, IsNone, IfSome, Contains, Some};
+ghost use Rattle.std.specs.Prelude.{◌≡◌, ◌+◌, ◌<◌, ◌∷◌, ◌↔◌, IsNone, IfSome, Contains, Some, drop, length};
 ghost use Rattle.lane_core.specs.Table.{Fits, InImmRange};
 ghost use Rattle.neon_table.specs.declared.NeonOp.{NeonOp};
-ghost use Rattle.neon_table.specs.Rows.{names, find_of, name_of, signature_of, range_of, accesses_of, access_of, eval_of};
+ghost use Rattle.neon_table.specs.Rows.{rows, names, find_of, name_of, signature_of, range_of, accesses_of, access_of, eval_of};
 
 use lane_core::table::{Access, Arg, ImmRange, Sig};
 use neon_lane::LaneOp;
@@ -47,6 +47,30 @@ pub fn find(name: &[u8]) -> Option<NeonOp>
             }),
             None => None,
         },
+    }
+}
+
+/// How many rows the table has.
+pub fn count() -> usize
+    ensures { result ≡ length rows }
+{
+    lane::count() + moves::count()
+}
+
+/// Row `k` of the table's list, counted from 0.
+pub fn at(k: usize) -> NeonOp
+    requires { k < length rows }
+    ensures { drop k rows ≡ result ∷ drop (k + 1) rows }
+{
+    let first = lane::count();
+    if k < first {
+        NeonOp {
+            row: Group::Lane(lane::at(k)),
+        }
+    } else {
+        NeonOp {
+            row: Group::Move(moves::at(k - first)),
+        }
     }
 }
 

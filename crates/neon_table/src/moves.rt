@@ -1,6 +1,6 @@
 //! The group of the rows of `neon_move`.
 
-ghost use Rattle.std.specs.Prelude.{◌≡◌, find};
+ghost use Rattle.std.specs.Prelude.{◌≡◌, ◌+◌, ◌<◌, ◌∷◌, find, drop, length};
 ghost use Rattle.row_names.specs.Names.{same_name};
 ghost use Rattle.neon_table.specs.MoveRows.{move_row, move_rows};
 
@@ -27,6 +27,19 @@ macro_rules! move_group {
 }
 
 static ROWS: &[(&str, MoveOp)] = move_group!(names_and_rows);
+
+pub fn count() -> usize
+    ensures { result ≡ length move_rows }
+{
+    ROWS.len()
+}
+
+pub fn at(k: usize) -> MoveOp
+    requires { k < length move_rows }
+    ensures { drop k move_rows ≡ result ∷ drop (k + 1) move_rows }
+{
+    ROWS[k].1
+}
 
 pub fn find(name: &[u8]) -> Option<MoveOp>
     ensures { result ≡ find (λ op. same_name (move_row op).name name.now) move_rows }

@@ -54,7 +54,7 @@ held false x v r h = cc
 -- the name
 name-says : (x : List ℕ) (p : Place) (u : CType) (env : Env) (b : Bool) → new_name x p u env ≡ Ok b → MayDeclare env x u
 name-says x p u env b h =
-    let r = otherwise (is_reserved env.dialect x) _ _ b h in
+    let r = otherwise (is_reserved env.dialect (env.neon x) x) _ _ b h in
     let d = otherwise (is_declared_here x env) _ _ b r.1 in
     let i = otherwise (not (is_object_type u)) _ _ b d.1 in
     let v = otherwise (is_void_pointer u) _ _ b i.1 in

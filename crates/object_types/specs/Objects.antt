@@ -33,7 +33,7 @@ is_array t = false
 -- a name that is declared: it isn't reserved (12), the scope doesn't have it (11), its type is an object's (11) and no pointer to void (18)
 abbrev pub new_name : List ℕ → Place → CType → Env → Checked Bool
 new_name x p t env =
-    if is_reserved env.dialect x then refuse 12 p (short x)
+    if is_reserved env.dialect (env.neon x) x then refuse 12 p (short x)
     else if is_declared_here x env then refuse 11 p (short x)
     else if not (is_object_type t) then refuse 11 p (short x)
     else if is_void_pointer t then refuse 18 p (short x)

@@ -38,7 +38,7 @@ IsAlignmentValue z = (k : ℕ) × (k ≤ 6) × (z ≡ pos (2 ^ k))
 -- A name may be declared for an object of a type: no other object of the same scope has it (6.7p3), it isn't reserved, and the type is an
 -- object's and no pointer to `void`.
 pub record MayDeclare (env : Env) (x : List ℕ) (t : CType) : Type 0 where
-  pub unreserved : is_reserved env.dialect x ≡ false
+  pub unreserved : is_reserved env.dialect (env.neon x) x ≡ false
   pub undeclared : named x env.innermost ≡ None
   pub object : IsObjectType t
   pub admitted : IsVoidPointer t → ⊥

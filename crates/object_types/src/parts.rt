@@ -88,7 +88,7 @@ pub fn new_name(
     ensures value { Gives (λ _. true) result (new_name name.now place t (env_of env.now)) }
     ensures free { OnOk result (is_declared_here name.now (env_of env.now) ≡ false) }
 {
-    if is_reserved(env.dialect, name.bytes()) {
+    if is_reserved(env.dialect, env.is_neon_row(name.bytes()), name.bytes()) {
         Err(name_fault(alloc, 12, place, name)?)
     } else if env.declares(name.bytes()) {
         Err(name_fault(alloc, 11, place, name)?)

@@ -57,17 +57,17 @@ fn has_reserved_front(name: &[u8]) -> bool
     name.starts_with(b"mg_") || name.starts_with(b"_mm") || name.starts_with(b"__builtin_")
 }
 
-/// Whether a name may not be declared: in the x86 dialect one that begins with `mg_`, `_mm` or `__builtin_`, that of a Neon row or vector type,
-/// and a predefined name of either dialect; in the Neon dialect that of a Neon row.
-pub fn is_reserved(dialect: Dialect, name: &[u8]) -> bool
-    ensures { result ≡ is_reserved dialect name.now }
+/// Whether a name, which a Neon row has or not, may not be declared: in the x86 dialect one that begins with `mg_`, `_mm` or `__builtin_`, that of
+/// a Neon row or vector type, and a predefined name of either dialect; in the Neon dialect that of a Neon row.
+pub fn is_reserved(dialect: Dialect, is_neon_row: bool, name: &[u8]) -> bool
+    ensures { result ≡ is_reserved dialect is_neon_row name.now }
 {
     match dialect {
         Dialect::X86 => has_reserved_front(name)
-            || neon_table::find(name).is_some()
+            || is_neon_row
             || is_vector_type(name)
             || is_predefined(Dialect::X86, name)
             || is_predefined(Dialect::Neon, name),
-        Dialect::Neon => neon_table::find(name).is_some(),
+        Dialect::Neon => is_neon_row,
     }
 }

@@ -7,7 +7,7 @@ use Rattle.order_rule.specs.declared.times.Times.{Times}
 use Rattle.order_rule.specs.declared.times.Times.TheVariants.{Never, Once, Often}
 use Rattle.order_rule.specs.Writing.{sum}
 
-sum-assoc : (s t u : Times) → sum (sum s t) u ≡ sum s (sum t u)
+pub sum-assoc : (s t u : Times) → sum (sum s t) u ≡ sum s (sum t u)
 sum-assoc Never t u = refl
 sum-assoc Once Never u = refl
 sum-assoc Once Once Never = refl
@@ -17,6 +17,17 @@ sum-assoc Once Often Never = refl
 sum-assoc Once Often Once = refl
 sum-assoc Once Often Often = refl
 sum-assoc Often t u = refl
+
+pub sum-turned : (s t : Times) → sum s t ≡ sum t s
+sum-turned Never Never = refl
+sum-turned Never Once = refl
+sum-turned Never Often = refl
+sum-turned Once Never = refl
+sum-turned Once Once = refl
+sum-turned Once Often = refl
+sum-turned Often Never = refl
+sum-turned Often Once = refl
+sum-turned Often Often = refl
 
 -- a turn of a loop that adds what one expression has
 pub one_more : (f : Tree → Times) (f_all : Trees → Times) → ((a : Tree) (rest : Trees) → f_all (More a rest) ≡ sum (f a) (f_all rest)) →

@@ -1,4 +1,5 @@
 pub mod Callees
+pub mod Counting
 pub mod Full
 pub mod Memory
 pub mod Parts

@@ -2,8 +2,8 @@
 use Rattle.std.specs.Prelude.{ℕ, Bool, if◌then◌else◌, List, [], ◌∷◌, ◌++◌, map, Option, None, is_some, unwrap_or}
 use Rattle.scopes.specs.Scopes.{named, or_else, entries_of}
 use Rattle.c_tree.specs.Tree.{Statements}
-use Rattle.c_tree.specs.View.{view_stmts}
 use Rattle.address_taken.specs.Addressed.{takes_statements}
+use Rattle.address_taken.specs.Marks.{is_marked}
 use Rattle.order_rule.specs.declared.memory.Memory.{Memory}
 
 -- a scope: its objects, and whether the address of each is taken
@@ -46,13 +46,16 @@ abbrev pub closed : Env → Env
 closed env = record env { outer = but_last env.outer; innermost = last_scope env.outer }
 
 -- where the body of a function begins, no scope in it is open
+abbrev pub begun : (List ℕ → Bool) → Env
+begun outside = record { outer = []; innermost = []; outside = outside }
+
 abbrev pub outset : Statements → Env
-outset body = record { outer = []; innermost = []; outside = λ x. takes_statements x body }
+outset body = begun (λ x. takes_statements x body)
 
 -- what contracts see of the code's
 abbrev pub env_of : Memory → Env
 env_of m = record {
   outer = map entries_of m.outer.items;
   innermost = entries_of m.innermost;
-  outside = λ x. takes_statements x (view_stmts m.body.now);
+  outside = is_marked m.outside.now;
 }

@@ -1,13 +1,11 @@
 //! What a called function may do.
 
-ghost use Rattle.std.specs.Prelude.{◌≡◌, ◌≤◌};
-ghost use Rattle.lane_core.specs.Table.{reads, params_of};
-ghost use Rattle.intel_table.specs.Rows.{find_of};
-ghost use Rattle.scopes.specs.Scopes.{entries_of};
-ghost use Rattle.order_rule.specs.Callees.{stores, row_effects, called};
+ghost use Rattle.std.specs.Prelude.{◌≡◌};
+ghost use Rattle.scopes.specs.Scopes.{named, rows_of};
+ghost use Rattle.order_rule.specs.Callees.{stores, reads, row_effects, called, callees_of};
 
-use lane_core::table::ParamKind;
-use scopes::Names;
+use c_tree::CType;
+use scopes::{Names, Parameter, Row, row_named};
 
 /// What a function of the unit may do.
 #[derive(Clone, Copy, Debug, PartialEq, Eq)]
@@ -18,60 +16,63 @@ pub struct Effects {
     pub reads: bool,
 }
 
+/// What a function may call.
+#[derive(Clone, Copy)]
+pub struct Callees<'c> {
+    /// The functions of the unit that stand before it, each with what it may do.
+    pub before: &'c Names<Effects>,
+    /// The rows of the table.
+    pub rows: &'c Names<Row>,
+}
+
 /// Whether one of the parameters is a pointer to what is no const.
-fn stores(params: &[ParamKind]) -> bool
+fn stores(params: &[Parameter]) -> bool
     ensures { result ≡ stores params.now }
 {
-    for kind in params {
-        match kind {
-            ParamKind::PointerTo(_, false) => return true,
-            ParamKind::PointerTo(_, true) | ParamKind::Reg(_) | ParamKind::Lane(_, _) => {}
-            ParamKind::Pair | ParamKind::Scalar(_) | ParamKind::Immediate | ParamKind::Nothing => {}
+    for p in params {
+        match p {
+            Parameter::Object(CType::Pointer(_, false)) => return true,
+            Parameter::Object(_) | Parameter::Immediate => {}
         }
     }
     false
 }
 
 /// Whether one of the parameters is a pointer to const.
-fn reads(params: &[ParamKind]) -> bool
+fn reads(params: &[Parameter]) -> bool
     ensures { result ≡ reads params.now }
 {
-    for kind in params {
-        match kind {
-            ParamKind::PointerTo(_, true) => return true,
-            ParamKind::PointerTo(_, false) | ParamKind::Reg(_) | ParamKind::Lane(_, _) => {}
-            ParamKind::Pair | ParamKind::Scalar(_) | ParamKind::Immediate | ParamKind::Nothing => {}
+    for p in params {
+        match p {
+            Parameter::Object(CType::Pointer(_, true)) => return true,
+            Parameter::Object(_) | Parameter::Immediate => {}
         }
     }
     false
 }
 
 /// What a row of that name may do, if there is one.
-fn row_effects(name: &[u8]) -> Effects
-    ensures { result ≡ row_effects (find_of name.now) }
+fn row_effects(rows: &Names<Row>, name: &[u8]) -> Effects
+    ensures { result ≡ row_effects (named name.now (rows_of rows.now)) }
 {
-    match intel_table::find(name) {
+    match row_named(rows, name) {
         None => Effects {
             stores: false,
             reads: false,
         },
-        Some(op) => {
-            let signature = intel_table::signature(op);
-            let params = &signature.params[..usize::from(signature.count)];
-            Effects {
-                stores: stores(params),
-                reads: reads(params),
-            }
-        }
+        Some(row) => Effects {
+            stores: stores(row.heading.params.as_slice()),
+            reads: reads(row.heading.params.as_slice()),
+        },
     }
 }
 
 /// What a called function of that name may do.
-pub fn called(name: &[u8], callees: &Names<Effects>) -> Effects
-    ensures { result ≡ called name.now (entries_of callees.now) }
+pub fn called(name: &[u8], callees: &Callees) -> Effects
+    ensures { result ≡ called name.now (callees_of callees.now) }
 {
-    match callees.find(name) {
+    match callees.before.find(name) {
         Some(known) => *known,
-        None => row_effects(name),
+        None => row_effects(callees.rows, name),
     }
 }

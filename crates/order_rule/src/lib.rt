@@ -1,9 +1,10 @@
 //! The order rule: the expressions whose result could depend on the order in which operands are evaluated (C11 6.5p2, p3) are refused.
 //!
-//! A part of a full expression is walked once for each variable that it steps or assigns, and four times beside.
+//! A part of a full expression is walked a few times, however many variables it steps or assigns.
 #![tactic(auto)]
 
 mod callees;
+mod counting;
 mod findings;
 mod laws;
 mod memory;
@@ -15,7 +16,7 @@ mod writing;
 
 pub use c_text::{Fail, Refusal};
 pub use c_tree::Function;
-pub use callees::Effects;
+pub use callees::{Callees, Effects};
 pub use laws::passing_is_by_the_rules;
-pub use scopes::Names;
+pub use scopes::{Names, Row};
 pub use walk::{check_order, effects};

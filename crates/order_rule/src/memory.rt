@@ -1,13 +1,11 @@
 //! Which objects are in memory since their address is taken, by the names that a place sees.
 
 ghost use Rattle.std.specs.Prelude.{◌≡◌, OnOk, map};
-ghost use Rattle.c_tree.specs.View.{view_stmts};
 ghost use Rattle.scopes.specs.Scopes.{entries_of};
-ghost use Rattle.address_taken.specs.Addressed.{takes_statements};
-ghost use Rattle.order_rule.specs.Memory.{outset, visible, is_taken, with_object, opened, closed, env_of};
+ghost use Rattle.address_taken.specs.Marks.{is_marked};
+ghost use Rattle.order_rule.specs.Memory.{begun, visible, is_taken, with_object, opened, closed, env_of};
 
-use address_taken::takes_statements;
-use c_tree::Stmt;
+use address_taken::Marks;
 use scopes::Names;
 use std::alloc::{AllocError, Global};
 
@@ -17,8 +15,8 @@ pub struct Memory<'a> {
     /// The scopes around the innermost one, outermost first.
     pub outer: Vec<Names<bool>>,
     pub innermost: Names<bool>,
-    /// The body of the function.
-    pub body: &'a [Stmt],
+    /// The names of objects outside the function whose address it takes.
+    pub outside: &'a Marks,
 }
 
 /// The truth value of the name in the scopes; one of an inner scope hides the others.
@@ -36,13 +34,13 @@ fn visible(name: &[u8], scopes: &[Names<bool>]) -> Option<bool>
 
 impl<'a> Memory<'a> {
     /// What the beginning of a body sees.
-    pub fn new(alloc: Global, body: &'a [Stmt]) -> Memory<'a>
-        ensures { env_of result ≡ outset (view_stmts body.now) }
+    pub fn new(alloc: Global, outside: &'a Marks) -> Memory<'a>
+        ensures { env_of result ≡ begun (is_marked outside.now) }
     {
         Memory {
             outer: Vec::new(alloc),
             innermost: Names::new(alloc),
-            body,
+            outside,
         }
     }
 
@@ -54,7 +52,7 @@ impl<'a> Memory<'a> {
             Some(taken) => *taken,
             None => match visible(name, self.outer.as_slice()) {
                 Some(taken) => taken,
-                None => takes_statements(name, self.body),
+                None => self.outside.has(name),
             },
         }
     }

@@ -1,19 +1,21 @@
 //! The parts of a full expression, and whether they pass.
 
-ghost use Rattle.std.specs.Prelude.{◌≡◌, option_map};
+ghost use Rattle.std.specs.Prelude.{◌≡◌, IfOk, option_map};
 ghost use Rattle.c_tree.specs.View.{view, view_kind, views};
 ghost use Rattle.object_types.specs.Objects.{root};
-ghost use Rattle.scopes.specs.Scopes.{entries_of};
+ghost use Rattle.order_rule.specs.Callees.{callees_of};
 ghost use Rattle.order_rule.specs.Memory.{env_of};
+ghost use Rattle.order_rule.specs.Counting.{IsCounted};
 ghost use Rattle.order_rule.specs.Parts.{assigns_once, assigns_memory, is_once, may_change, may_change_target, changes_well, changes_well_in, changes_well_in_all, writes_well, passes, unless, broken, broken_in_all};
 
-use crate::callees::Effects;
+use crate::callees::Callees;
+use crate::counting::{Counts, counts_of};
 use crate::memory::Memory;
 use crate::reading::reads;
 use crate::times::Times;
-use crate::writing::{changes, in_memory, is_target, occurrences, root, writers};
+use crate::writing::{changes, in_memory, is_target, root, writers};
 use c_tree::{Expr, ExprKind};
-use scopes::Names;
+use std::alloc::{AllocError, Global};
 
 /// Whether the expression is an assignment to that variable, whose right side neither steps nor assigns it.
 fn assigns_once(name: &[u8], e: &Expr) -> bool
@@ -44,21 +46,24 @@ fn is_once(times: Times) -> bool
     }
 }
 
-/// A part of a full expression.
+/// A part of a full expression, and how often each name occurs in it.
 #[derive(Clone, Copy)]
 struct Part<'e> {
     whole: &'e Expr,
+    counts: &'e Counts,
 }
 
 /// Whether the variable may be stepped or assigned in that part.
 fn may_change(part: Part, name: &[u8]) -> bool
+    requires { IsCounted part.counts.now (view part.whole.now) }
     ensures { result ≡ may_change (view part.entry.whole.now) name.now }
 {
-    is_once(occurrences(name, part.whole)) || assigns_once(name, root(part.whole))
+    is_once(part.counts.times(name)) || assigns_once(name, root(part.whole))
 }
 
 /// Whether the object that is stepped or assigned, if it is a variable, may be.
 fn may_change_target(part: Part, a: &Expr) -> bool
+    requires { IsCounted part.counts.now (view part.whole.now) }
     ensures { result ≡ may_change_target (view part.entry.whole.now) (view a.now) }
 {
     match &*a.kind {
@@ -70,6 +75,7 @@ fn may_change_target(part: Part, a: &Expr) -> bool
 /// Whether each variable that the expression steps or assigns may be.
 #[cycle(changes)]
 fn changes_well(part: Part, e: &Expr) -> bool
+    requires { IsCounted part.counts.now (view part.whole.now) }
     ensures { result ≡ changes_well (view part.entry.whole.now) (view e.now) }
 {
     changes_well_in(part, &e.kind)
@@ -77,6 +83,7 @@ fn changes_well(part: Part, e: &Expr) -> bool
 
 #[cycle(changes)]
 fn changes_well_in(part: Part, k: &ExprKind) -> bool
+    requires { IsCounted part.counts.now (view part.whole.now) }
     ensures { result ≡ changes_well_in (view part.entry.whole.now) (view_kind k.now) }
 {
     match k {
@@ -100,6 +107,7 @@ fn changes_well_in(part: Part, k: &ExprKind) -> bool
 
 #[cycle(changes)]
 fn changes_well_in_all(part: Part, all: &[Expr]) -> bool
+    requires { IsCounted part.counts.now (view part.whole.now) }
     ensures { result ≡ changes_well_in_all (view part.entry.whole.now) (views all.now) }
 {
     for e in all {
@@ -111,8 +119,8 @@ fn changes_well_in_all(part: Part, all: &[Expr]) -> bool
 }
 
 /// Whether the part passes with that many writers.
-fn writes_well(memory: &Memory, callees: &Names<Effects>, e: &Expr, times: Times) -> bool
-    ensures { result ≡ writes_well (env_of memory.now) (entries_of callees.now) (view e.now) times }
+fn writes_well(memory: &Memory, callees: &Callees, e: &Expr, times: Times) -> bool
+    ensures { result ≡ writes_well (env_of memory.now) (callees_of callees.now) (view e.now) times }
 {
     match times {
         Times::Never => true,
@@ -121,57 +129,78 @@ fn writes_well(memory: &Memory, callees: &Names<Effects>, e: &Expr, times: Times
     }
 }
 
-/// Whether the part passes.
-fn passes(memory: &Memory, callees: &Names<Effects>, e: &Expr) -> bool
-    ensures { result ≡ passes (env_of memory.now) (entries_of callees.now) (view e.now) }
+/// Whether the part passes. The only error is want of memory.
+fn passes(alloc: Global, memory: &Memory, callees: &Callees, e: &Expr) -> Result<bool, AllocError>
+    ensures { IfOk result (λ b. b ≡ passes (env_of memory.now) (callees_of callees.now) (view e.now)) }
 {
-    changes_well(Part { whole: e }, e)
-        && writes_well(memory, callees, e, writers(memory, callees, e))
+    let counts = counts_of(alloc, e)?;
+    let part = Part {
+        whole: e,
+        counts: &counts,
+    };
+    Ok(changes_well(part, e) && writes_well(memory, callees, e, writers(memory, callees, e)))
 }
 
 /// The part, unless it passes.
-fn unless_it_passes<'e>(memory: &Memory, callees: &Names<Effects>, e: &'e Expr) -> Option<&'e Expr>
-    ensures { option_map (λ r. view r.now) result ≡ unless (passes (env_of memory.now) (entries_of callees.now) (view e.now)) (view e.now) }
+fn unless_it_passes<'e>(
+    alloc: Global,
+    memory: &Memory,
+    callees: &Callees,
+    e: &'e Expr,
+) -> Result<Option<&'e Expr>, AllocError>
+    ensures { IfOk result (λ o. option_map (λ r. view r.now) o ≡ unless (passes (env_of memory.now) (callees_of callees.now) (view e.now)) (view e.now)) }
 {
-    if passes(memory, callees, e) {
-        None
+    if passes(alloc, memory, callees, e)? {
+        Ok(None)
     } else {
-        Some(e)
+        Ok(Some(e))
     }
 }
 
-/// The first part that doesn't pass.
+/// The first part that doesn't pass. The only error is want of memory.
 #[cycle(broken)]
-pub fn broken<'e>(memory: &Memory, callees: &Names<Effects>, e: &'e Expr) -> Option<&'e Expr>
-    ensures { option_map (λ r. view r.now) result ≡ broken (env_of memory.now) (entries_of callees.now) (view e.now) }
+pub fn broken<'e>(
+    alloc: Global,
+    memory: &Memory,
+    callees: &Callees,
+    e: &'e Expr,
+) -> Result<Option<&'e Expr>, AllocError>
+    ensures { IfOk result (λ o. option_map (λ r. view r.now) o ≡ broken (env_of memory.now) (callees_of callees.now) (view e.now)) }
 {
     match &*e.kind {
-        ExprKind::AndThen(a, b) | ExprKind::OrElse(a, b) => match broken(memory, callees, a) {
-            Some(part) => Some(part),
-            None => broken(memory, callees, b),
-        },
-        ExprKind::Choice(c, a, b) => match broken(memory, callees, c) {
-            Some(part) => Some(part),
-            None => match broken(memory, callees, a) {
-                Some(part) => Some(part),
-                None => broken(memory, callees, b),
+        ExprKind::AndThen(a, b) | ExprKind::OrElse(a, b) => {
+            match broken(alloc, memory, callees, a)? {
+                Some(part) => Ok(Some(part)),
+                None => Ok(broken(alloc, memory, callees, b)?),
+            }
+        }
+        ExprKind::Choice(c, a, b) => match broken(alloc, memory, callees, c)? {
+            Some(part) => Ok(Some(part)),
+            None => match broken(alloc, memory, callees, a)? {
+                Some(part) => Ok(Some(part)),
+                None => Ok(broken(alloc, memory, callees, b)?),
             },
         },
-        ExprKind::Comma(all) => broken_in_all(memory, callees, all.as_slice()),
-        ExprKind::Cast(_, a, false) => broken(memory, callees, a),
-        _ => unless_it_passes(memory, callees, e),
+        ExprKind::Comma(all) => Ok(broken_in_all(alloc, memory, callees, all.as_slice())?),
+        ExprKind::Cast(_, a, false) => Ok(broken(alloc, memory, callees, a)?),
+        _ => Ok(unless_it_passes(alloc, memory, callees, e)?),
     }
 }
 
 /// The first part of these that doesn't pass.
 #[cycle(broken)]
-fn broken_in_all<'e>(memory: &Memory, callees: &Names<Effects>, all: &'e [Expr]) -> Option<&'e Expr>
-    ensures { option_map (λ r. view r.now) result ≡ broken_in_all (env_of memory.now) (entries_of callees.now) (views all.now) }
+fn broken_in_all<'e>(
+    alloc: Global,
+    memory: &Memory,
+    callees: &Callees,
+    all: &'e [Expr],
+) -> Result<Option<&'e Expr>, AllocError>
+    ensures { IfOk result (λ o. option_map (λ r. view r.now) o ≡ broken_in_all (env_of memory.now) (callees_of callees.now) (views all.now)) }
 {
     for e in all {
-        if let Some(part) = broken(memory, callees, e) {
-            return Some(part);
+        if let Some(part) = broken(alloc, memory, callees, e)? {
+            return Ok(Some(part));
         }
     }
-    None
+    Ok(None)
 }

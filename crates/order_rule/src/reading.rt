@@ -3,15 +3,14 @@
 ghost use Rattle.std.specs.Prelude.{◌≡◌};
 ghost use Rattle.c_tree.specs.View.{view, view_kind, views};
 ghost use Rattle.object_types.specs.Objects.{is_array};
-ghost use Rattle.scopes.specs.Scopes.{entries_of};
+ghost use Rattle.order_rule.specs.Callees.{callees_of};
 ghost use Rattle.order_rule.specs.Memory.{env_of};
 ghost use Rattle.order_rule.specs.Reading.{reads, reads_in, reads_in_all, reaches, reaches_by};
 
-use crate::callees::{Effects, called};
+use crate::callees::{Callees, called};
 use crate::memory::Memory;
 use crate::writing::in_memory;
 use c_tree::{CType, Expr, ExprKind};
-use scopes::Names;
 
 fn is_array(t: CType) -> bool
     ensures { result ≡ is_array t }
@@ -24,21 +23,15 @@ fn is_array(t: CType) -> bool
 
 /// Whether the expression reads memory; with `outside` only what lies outside writers and their operands counts.
 #[cycle(reads)]
-pub fn reads(outside: bool, memory: &Memory, callees: &Names<Effects>, e: &Expr) -> bool
-    ensures { result ≡ reads outside (env_of memory.now) (entries_of callees.now) (view e.now) }
+pub fn reads(outside: bool, memory: &Memory, callees: &Callees, e: &Expr) -> bool
+    ensures { result ≡ reads outside (env_of memory.now) (callees_of callees.now) (view e.now) }
 {
     reads_in(outside, memory, callees, e.ty, &e.kind)
 }
 
 #[cycle(reads)]
-fn reads_in(
-    outside: bool,
-    memory: &Memory,
-    callees: &Names<Effects>,
-    ty: CType,
-    k: &ExprKind,
-) -> bool
-    ensures { result ≡ reads_in outside (env_of memory.now) (entries_of callees.now) ty (view_kind k.now) }
+fn reads_in(outside: bool, memory: &Memory, callees: &Callees, ty: CType, k: &ExprKind) -> bool
+    ensures { result ≡ reads_in outside (env_of memory.now) (callees_of callees.now) ty (view_kind k.now) }
 {
     match k {
         ExprKind::Name(x) => !is_array(ty) && memory.is_taken(x.bytes()),
@@ -71,8 +64,8 @@ fn reads_in(
 }
 
 #[cycle(reads)]
-fn reads_in_all(outside: bool, memory: &Memory, callees: &Names<Effects>, all: &[Expr]) -> bool
-    ensures { result ≡ reads_in_all outside (env_of memory.now) (entries_of callees.now) (views all.now) }
+fn reads_in_all(outside: bool, memory: &Memory, callees: &Callees, all: &[Expr]) -> bool
+    ensures { result ≡ reads_in_all outside (env_of memory.now) (callees_of callees.now) (views all.now) }
 {
     for e in all {
         if reads(outside, memory, callees, e) {
@@ -84,15 +77,15 @@ fn reads_in_all(outside: bool, memory: &Memory, callees: &Names<Effects>, all: &
 
 /// Whether what leads to the object reads memory that the expression designates.
 #[cycle(reads)]
-fn reaches(outside: bool, memory: &Memory, callees: &Names<Effects>, e: &Expr) -> bool
-    ensures { result ≡ reaches outside (env_of memory.now) (entries_of callees.now) (view e.now) }
+fn reaches(outside: bool, memory: &Memory, callees: &Callees, e: &Expr) -> bool
+    ensures { result ≡ reaches outside (env_of memory.now) (callees_of callees.now) (view e.now) }
 {
     reaches_by(outside, memory, callees, &e.kind)
 }
 
 #[cycle(reads)]
-fn reaches_by(outside: bool, memory: &Memory, callees: &Names<Effects>, k: &ExprKind) -> bool
-    ensures { result ≡ reaches_by outside (env_of memory.now) (entries_of callees.now) (view_kind k.now) }
+fn reaches_by(outside: bool, memory: &Memory, callees: &Callees, k: &ExprKind) -> bool
+    ensures { result ≡ reaches_by outside (env_of memory.now) (callees_of callees.now) (view_kind k.now) }
 {
     match k {
         ExprKind::Index(a, b) => reads(outside, memory, callees, a)

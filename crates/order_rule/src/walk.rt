@@ -3,23 +3,22 @@
 ghost use Rattle.std.specs.Prelude.{◌≡◌, OnOk, IfOk, List, map, option_map, None, Some};
 ghost use Rattle.c_text.specs.Answers.{IfRefused};
 ghost use Rattle.c_tree.specs.View.{view, view_declared, view_stmt, view_stmts, view_optional, view_function};
-ghost use Rattle.scopes.specs.Scopes.{entries_of};
+ghost use Rattle.order_rule.specs.Callees.{callees_of};
 ghost use Rattle.address_taken.specs.Taken.{seen_all};
 ghost use Rattle.order_rule.specs.Memory.{env_of, with_object, opened};
 ghost use Rattle.order_rule.specs.Full.{Full, full, full_maybe, flags, inner, behind, behind_optional, first_flag, other_flags, with_objects, full_objects, beyond, beyond_optional, beyond_all, full_statement, full_optional, full_statements, full_expressions, effects_of, refusal, order_of, some_times, nothing, noted, noted_all, found};
 
-use crate::callees::Effects;
+use crate::callees::{Callees, Effects};
 use crate::findings::Findings;
 use crate::memory::Memory;
 use crate::parts::broken;
 use crate::reading::reads;
 use crate::times::Times;
 use crate::writing::writers;
-use address_taken::{Taken, address_taken};
+use address_taken::{Taken, taken_and_outside};
 use c_text::Fail;
 use c_tree::{Declared, Expr, Function, Stmt};
 use expression_types::fault;
-use scopes::Names;
 use std::alloc::{AllocError, Global};
 
 /// What is known of the objects that the first of the statements declares.
@@ -73,12 +72,13 @@ fn some_times(times: Times) -> bool
 
 /// Notes what is found of a full expression.
 fn note<'e>(
+    alloc: Global,
     memory: &Memory,
-    callees: &Names<Effects>,
+    callees: &Callees,
     e: &'e Expr,
     before: Findings<'e>,
-) -> Findings<'e>
-    ensures { found result ≡ noted (entries_of callees.now) (full (view e.now) (env_of memory.now)) (found before.entry) }
+) -> Result<Findings<'e>, AllocError>
+    ensures { IfOk result (λ f. found f ≡ noted (callees_of callees.now) (full (view e.now) (env_of memory.now)) (found before.entry)) }
 {
     let effects = Effects {
         stores: before.effects.stores || some_times(writers(memory, callees, e)),
@@ -86,23 +86,24 @@ fn note<'e>(
     };
     let broken = match before.broken {
         Some(part) => Some(part),
-        None => broken(memory, callees, e),
+        None => broken(alloc, memory, callees, e)?,
     };
-    Findings { effects, broken }
+    Ok(Findings { effects, broken })
 }
 
 /// The same of an expression that may be left out.
 fn note_maybe<'e>(
+    alloc: Global,
     memory: &Memory,
-    callees: &Names<Effects>,
+    callees: &Callees,
     e: &'e Option<Expr>,
     before: Findings<'e>,
-) -> Findings<'e>
-    ensures { (more : List Full) → noted_all (entries_of callees.now) (full_maybe (option_map view e.now) (env_of memory.now) more) (found before.entry) ≡ noted_all (entries_of callees.now) more (found result) }
+) -> Result<Findings<'e>, AllocError>
+    ensures { (more : List Full) → IfOk result (λ f. noted_all (callees_of callees.now) (full_maybe (option_map view e.now) (env_of memory.now) more) (found before.entry) ≡ noted_all (callees_of callees.now) more (found f)) }
 {
     match e {
-        None => before,
-        Some(e) => note(memory, callees, e, before),
+        None => Ok(before),
+        Some(e) => Ok(note(alloc, memory, callees, e, before)?),
     }
 }
 
@@ -120,13 +121,13 @@ fn first_flag(taken: &[bool]) -> (bool, &[bool])
 /// Declared objects, with what they begin with.
 fn objects<'e>(
     alloc: Global,
-    callees: &Names<Effects>,
+    callees: &Callees,
     all: &'e [Declared],
     taken: &[bool],
     memory: &mut Memory,
     before: Findings<'e>,
 ) -> Result<Findings<'e>, AllocError>
-    ensures found { (more : List Full) → IfOk result (λ f. noted_all (entries_of callees.now) (full_objects (map view_declared all.now) taken.now (env_of memory.old) more) (found before.entry) ≡ noted_all (entries_of callees.now) more (found f)) }
+    ensures found { (more : List Full) → IfOk result (λ f. noted_all (callees_of callees.now) (full_objects (map view_declared all.now) taken.now (env_of memory.old) more) (found before.entry) ≡ noted_all (callees_of callees.now) more (found f)) }
     ensures names { OnOk result (env_of memory.new ≡ with_objects (map view_declared all.now) taken.now (env_of memory.old)) }
 {
     let mut now = before;
@@ -134,7 +135,7 @@ fn objects<'e>(
     for d in all {
         let (first, others) = first_flag(left);
         memory.declare(alloc, d.name.bytes(), first)?;
-        now = note_maybe(&*memory, callees, &d.init, now);
+        now = note_maybe(alloc, &*memory, callees, &d.init, now)?;
         left = others;
     }
     Ok(now)
@@ -144,37 +145,37 @@ fn objects<'e>(
 #[cycle(walk)]
 fn statement<'e>(
     alloc: Global,
-    callees: &Names<Effects>,
+    callees: &Callees,
     s: &'e Stmt,
     parts: &[Taken],
     memory: &mut Memory,
     before: Findings<'e>,
 ) -> Result<Findings<'e>, AllocError>
-    ensures found { (more : List Full) → IfOk result (λ f. noted_all (entries_of callees.now) (full_statement (view_stmt s.now) (seen_all parts.now) (env_of memory.old) more) (found before.entry) ≡ noted_all (entries_of callees.now) more (found f)) }
+    ensures found { (more : List Full) → IfOk result (λ f. noted_all (callees_of callees.now) (full_statement (view_stmt s.now) (seen_all parts.now) (env_of memory.old) more) (found before.entry) ≡ noted_all (callees_of callees.now) more (found f)) }
     ensures names { OnOk result (env_of memory.new ≡ beyond (view_stmt s.now) (seen_all parts.now) (env_of memory.old)) }
 {
     match s {
         Stmt::Declare(all) => objects(alloc, callees, all.as_slice(), flags(parts), memory, before),
-        Stmt::Run(e) => Ok(note(&*memory, callees, e, before)),
+        Stmt::Run(e) => Ok(note(alloc, &*memory, callees, e, before)?),
         Stmt::Block(all) => block(alloc, callees, all.as_slice(), inner(parts), memory, before),
         Stmt::If(c, s, other) => {
-            let now = note(&*memory, callees, c, before);
+            let now = note(alloc, &*memory, callees, c, before)?;
             let now = in_scope(alloc, callees, s, inner(parts), memory, now)?;
             optional_in_scope(alloc, callees, other, behind(inner(parts)), memory, now)
         }
         Stmt::While(c, s) => {
-            let now = note(&*memory, callees, c, before);
+            let now = note(alloc, &*memory, callees, c, before)?;
             in_scope(alloc, callees, s, inner(parts), memory, now)
         }
         Stmt::DoWhile(s, c) => {
             let now = in_scope(alloc, callees, s, inner(parts), memory, before)?;
-            Ok(note(&*memory, callees, c, now))
+            Ok(note(alloc, &*memory, callees, c, now)?)
         }
         Stmt::For(i, c, n, s) => {
             memory.open(alloc)?;
             let now = optional(alloc, callees, i, inner(parts), memory, before)?;
-            let now = note_maybe(&*memory, callees, c, now);
-            let now = note_maybe(&*memory, callees, n, now);
+            let now = note_maybe(alloc, &*memory, callees, c, now)?;
+            let now = note_maybe(alloc, &*memory, callees, n, now)?;
             let now = in_scope(
                 alloc,
                 callees,
@@ -186,7 +187,7 @@ fn statement<'e>(
             memory.close(alloc);
             Ok(now)
         }
-        Stmt::Return(_, e) => Ok(note_maybe(&*memory, callees, e, before)),
+        Stmt::Return(_, e) => Ok(note_maybe(alloc, &*memory, callees, e, before)?),
         Stmt::Break(_) | Stmt::Continue(_) | Stmt::Empty => Ok(before),
     }
 }
@@ -195,13 +196,13 @@ fn statement<'e>(
 #[cycle(walk)]
 fn in_scope<'e>(
     alloc: Global,
-    callees: &Names<Effects>,
+    callees: &Callees,
     s: &'e Stmt,
     parts: &[Taken],
     memory: &mut Memory,
     before: Findings<'e>,
 ) -> Result<Findings<'e>, AllocError>
-    ensures found { (more : List Full) → IfOk result (λ f. noted_all (entries_of callees.now) (full_statement (view_stmt s.now) (seen_all parts.now) (opened (env_of memory.old)) more) (found before.entry) ≡ noted_all (entries_of callees.now) more (found f)) }
+    ensures found { (more : List Full) → IfOk result (λ f. noted_all (callees_of callees.now) (full_statement (view_stmt s.now) (seen_all parts.now) (opened (env_of memory.old)) more) (found before.entry) ≡ noted_all (callees_of callees.now) more (found f)) }
     ensures names { OnOk result (env_of memory.new ≡ env_of memory.old) }
 {
     memory.open(alloc)?;
@@ -214,13 +215,13 @@ fn in_scope<'e>(
 #[cycle(walk)]
 fn optional_in_scope<'e>(
     alloc: Global,
-    callees: &Names<Effects>,
+    callees: &Callees,
     s: &'e Option<Box<Stmt>>,
     parts: &[Taken],
     memory: &mut Memory,
     before: Findings<'e>,
 ) -> Result<Findings<'e>, AllocError>
-    ensures found { (more : List Full) → IfOk result (λ f. noted_all (entries_of callees.now) (full_optional (view_optional s.now) (seen_all parts.now) (opened (env_of memory.old)) more) (found before.entry) ≡ noted_all (entries_of callees.now) more (found f)) }
+    ensures found { (more : List Full) → IfOk result (λ f. noted_all (callees_of callees.now) (full_optional (view_optional s.now) (seen_all parts.now) (opened (env_of memory.old)) more) (found before.entry) ≡ noted_all (callees_of callees.now) more (found f)) }
     ensures names { OnOk result (env_of memory.new ≡ env_of memory.old) }
 {
     match s {
@@ -233,13 +234,13 @@ fn optional_in_scope<'e>(
 #[cycle(walk)]
 fn optional<'e>(
     alloc: Global,
-    callees: &Names<Effects>,
+    callees: &Callees,
     s: &'e Option<Box<Stmt>>,
     parts: &[Taken],
     memory: &mut Memory,
     before: Findings<'e>,
 ) -> Result<Findings<'e>, AllocError>
-    ensures found { (more : List Full) → IfOk result (λ f. noted_all (entries_of callees.now) (full_optional (view_optional s.now) (seen_all parts.now) (env_of memory.old) more) (found before.entry) ≡ noted_all (entries_of callees.now) more (found f)) }
+    ensures found { (more : List Full) → IfOk result (λ f. noted_all (callees_of callees.now) (full_optional (view_optional s.now) (seen_all parts.now) (env_of memory.old) more) (found before.entry) ≡ noted_all (callees_of callees.now) more (found f)) }
     ensures names { OnOk result (env_of memory.new ≡ beyond_optional (view_optional s.now) (seen_all parts.now) (env_of memory.old)) }
 {
     match s {
@@ -252,13 +253,13 @@ fn optional<'e>(
 #[cycle(walk)]
 fn block<'e>(
     alloc: Global,
-    callees: &Names<Effects>,
+    callees: &Callees,
     all: &'e [Stmt],
     parts: &[Taken],
     memory: &mut Memory,
     before: Findings<'e>,
 ) -> Result<Findings<'e>, AllocError>
-    ensures found { (more : List Full) → IfOk result (λ f. noted_all (entries_of callees.now) (full_statements (view_stmts all.now) (seen_all parts.now) (opened (env_of memory.old)) more) (found before.entry) ≡ noted_all (entries_of callees.now) more (found f)) }
+    ensures found { (more : List Full) → IfOk result (λ f. noted_all (callees_of callees.now) (full_statements (view_stmts all.now) (seen_all parts.now) (opened (env_of memory.old)) more) (found before.entry) ≡ noted_all (callees_of callees.now) more (found f)) }
     ensures names { OnOk result (env_of memory.new ≡ env_of memory.old) }
 {
     memory.open(alloc)?;
@@ -271,13 +272,13 @@ fn block<'e>(
 #[cycle(walk)]
 fn statements<'e>(
     alloc: Global,
-    callees: &Names<Effects>,
+    callees: &Callees,
     all: &'e [Stmt],
     parts: &[Taken],
     memory: &mut Memory,
     before: Findings<'e>,
 ) -> Result<Findings<'e>, AllocError>
-    ensures found { (more : List Full) → IfOk result (λ f. noted_all (entries_of callees.now) (full_statements (view_stmts all.now) (seen_all parts.now) (env_of memory.old) more) (found before.entry) ≡ noted_all (entries_of callees.now) more (found f)) }
+    ensures found { (more : List Full) → IfOk result (λ f. noted_all (callees_of callees.now) (full_statements (view_stmts all.now) (seen_all parts.now) (env_of memory.old) more) (found before.entry) ≡ noted_all (callees_of callees.now) more (found f)) }
     ensures names { OnOk result (env_of memory.new ≡ beyond_all (view_stmts all.now) (seen_all parts.now) (env_of memory.old)) }
 {
     let mut now = before;
@@ -311,17 +312,17 @@ fn parameters(
 fn findings<'e>(
     alloc: Global,
     function: &'e Function,
-    callees: &Names<Effects>,
+    callees: &Callees,
 ) -> Result<Findings<'e>, AllocError>
-    ensures { IfOk result (λ f. found f ≡ noted_all (entries_of callees.now) (full_expressions (view_function function.now)) nothing) }
+    ensures { IfOk result (λ f. found f ≡ noted_all (callees_of callees.now) (full_expressions (view_function function.now)) nothing) }
 {
     let body = function.body.as_slice();
-    let taken = address_taken(alloc, function)?;
-    let mut memory = Memory::new(alloc, body);
+    let taken = taken_and_outside(alloc, function)?;
+    let mut memory = Memory::new(alloc, &taken.1);
     parameters(
         alloc,
         function.params.as_slice(),
-        taken.params.as_slice(),
+        taken.0.params.as_slice(),
         &mut memory,
     )?;
     let nothing = Findings {
@@ -335,28 +336,24 @@ fn findings<'e>(
         alloc,
         callees,
         body,
-        taken.body.as_slice(),
+        taken.0.body.as_slice(),
         &mut memory,
         nothing,
     )
 }
 
-/// What the function may do, given what those before it may do; `callees` has all of these but the refused ones. The only error is want of memory.
-pub fn effects(
-    alloc: Global,
-    function: &Function,
-    callees: &Names<Effects>,
-) -> Result<Effects, AllocError>
-    ensures { IfOk result (λ e. e ≡ effects_of (view_function function.now) (entries_of callees.now)) }
+/// What the function may do, given what it may call; `callees` has the functions before it, and of these the refused ones needn't be there. The only error is want of memory.
+pub fn effects(alloc: Global, function: &Function, callees: &Callees) -> Result<Effects, AllocError>
+    ensures { IfOk result (λ e. e ≡ effects_of (view_function function.now) (callees_of callees.now)) }
 {
     let found = findings(alloc, function, callees)?;
     Ok(found.effects)
 }
 
 /// Whether each full expression of the function keeps to the order rule. The first part that breaks it is refused, at its root.
-pub fn check_order(alloc: Global, function: &Function, callees: &Names<Effects>) -> Result<(), Fail>
-    ensures ok { OnOk result (order_of (view_function function.now) (entries_of callees.now) ≡ None) }
-    ensures refused { IfRefused result (λ r. order_of (view_function function.now) (entries_of callees.now) ≡ Some r) }
+pub fn check_order(alloc: Global, function: &Function, callees: &Callees) -> Result<(), Fail>
+    ensures ok { OnOk result (order_of (view_function function.now) (callees_of callees.now) ≡ None) }
+    ensures refused { IfRefused result (λ r. order_of (view_function function.now) (callees_of callees.now) ≡ Some r) }
 {
     let found = findings(alloc, function, callees)?;
     match found.broken {

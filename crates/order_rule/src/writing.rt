@@ -4,15 +4,14 @@ ghost use Rattle.std.specs.Prelude.{◌≡◌};
 ghost use Rattle.c_tree.specs.View.{view, view_kind, views};
 ghost use Rattle.address_taken.specs.Addressed.{is_name};
 ghost use Rattle.object_types.specs.Objects.{root};
-ghost use Rattle.scopes.specs.Scopes.{entries_of};
+ghost use Rattle.order_rule.specs.Callees.{callees_of};
 ghost use Rattle.order_rule.specs.Memory.{env_of};
-ghost use Rattle.order_rule.specs.Writing.{occurrences, occurrences_in, occurrences_in_all, is_target, changes, changes_in, changes_in_all, in_memory, in_memory_by, writers, writers_in, writers_in_all};
+ghost use Rattle.order_rule.specs.Writing.{is_target, changes, changes_in, changes_in_all, in_memory, in_memory_by, writers, writers_in, writers_in_all};
 
-use crate::callees::{Effects, called};
+use crate::callees::{Callees, called};
 use crate::memory::Memory;
 use crate::times::{Times, once_if, sum};
 use c_tree::{Expr, ExprKind};
-use scopes::Names;
 
 /// The expression below the casts that aren't written.
 pub fn root(e: &Expr) -> &Expr
@@ -22,55 +21,6 @@ pub fn root(e: &Expr) -> &Expr
         ExprKind::Cast(_, a, false) => root(a),
         _ => e,
     }
-}
-
-/// How often the name occurs in the expression.
-#[cycle(occurrences)]
-pub fn occurrences(name: &[u8], e: &Expr) -> Times
-    ensures { result ≡ occurrences name.now (view e.now) }
-{
-    occurrences_in(name, &e.kind)
-}
-
-#[cycle(occurrences)]
-fn occurrences_in(name: &[u8], k: &ExprKind) -> Times
-    ensures { result ≡ occurrences_in name.now (view_kind k.now) }
-{
-    match k {
-        ExprKind::Name(x) | ExprKind::SizeOfName(x) => once_if(name == x.bytes()),
-        ExprKind::Unary(_, a) | ExprKind::Step(a, _, _) => occurrences(name, a),
-        ExprKind::Cast(_, a, _) | ExprKind::Deref(a) => occurrences(name, a),
-        ExprKind::Address(a) | ExprKind::Half(a, _) => occurrences(name, a),
-        ExprKind::Binary(_, a, b) | ExprKind::Assign(_, a, b) => sum(
-            occurrences(name, a),
-            occurrences(name, b),
-        ),
-        ExprKind::AndThen(a, b) | ExprKind::OrElse(a, b) => sum(
-            occurrences(name, a),
-            occurrences(name, b),
-        ),
-        ExprKind::Index(a, b) | ExprKind::PairOf(a, b) => sum(
-            occurrences(name, a),
-            occurrences(name, b),
-        ),
-        ExprKind::Choice(c, a, b) => sum(
-            occurrences(name, c),
-            sum(occurrences(name, a), occurrences(name, b)),
-        ),
-        ExprKind::Comma(all) | ExprKind::Call(_, all) => occurrences_in_all(name, all.as_slice()),
-        ExprKind::Const(_) | ExprKind::SizeOfType(_) | ExprKind::Str(_) => Times::Never,
-    }
-}
-
-#[cycle(occurrences)]
-fn occurrences_in_all(name: &[u8], all: &[Expr]) -> Times
-    ensures { result ≡ occurrences_in_all name.now (views all.now) }
-{
-    let mut total = Times::Never;
-    for e in all {
-        total = sum(total, occurrences(name, e));
-    }
-    total
 }
 
 /// Whether the object that is stepped or assigned is the variable of this name.
@@ -144,15 +94,15 @@ fn in_memory_by(memory: &Memory, k: &ExprKind) -> bool
 
 /// How many writers the expression has.
 #[cycle(writers)]
-pub fn writers(memory: &Memory, callees: &Names<Effects>, e: &Expr) -> Times
-    ensures { result ≡ writers (env_of memory.now) (entries_of callees.now) (view e.now) }
+pub fn writers(memory: &Memory, callees: &Callees, e: &Expr) -> Times
+    ensures { result ≡ writers (env_of memory.now) (callees_of callees.now) (view e.now) }
 {
     writers_in(memory, callees, &e.kind)
 }
 
 #[cycle(writers)]
-fn writers_in(memory: &Memory, callees: &Names<Effects>, k: &ExprKind) -> Times
-    ensures { result ≡ writers_in (env_of memory.now) (entries_of callees.now) (view_kind k.now) }
+fn writers_in(memory: &Memory, callees: &Callees, k: &ExprKind) -> Times
+    ensures { result ≡ writers_in (env_of memory.now) (callees_of callees.now) (view_kind k.now) }
 {
     match k {
         ExprKind::Step(a, _, _) => sum(once_if(in_memory(memory, a)), writers(memory, callees, a)),
@@ -187,8 +137,8 @@ fn writers_in(memory: &Memory, callees: &Names<Effects>, k: &ExprKind) -> Times
 }
 
 #[cycle(writers)]
-fn writers_in_all(memory: &Memory, callees: &Names<Effects>, all: &[Expr]) -> Times
-    ensures { result ≡ writers_in_all (env_of memory.now) (entries_of callees.now) (views all.now) }
+fn writers_in_all(memory: &Memory, callees: &Callees, all: &[Expr]) -> Times
+    ensures { result ≡ writers_in_all (env_of memory.now) (callees_of callees.now) (views all.now) }
 {
     let mut total = Times::Never;
     for e in all {

@@ -8,7 +8,8 @@ use Rattle.std.specs.Option.{option_map}
 use Rattle.c_text.specs.declared.tokens.Dialect.{Dialect}
 use Rattle.scopes.specs.declared.names.Names.{Names}
 use Rattle.scopes.specs.declared.environment.Callee.{Callee as CodeCallee}
-use Rattle.scopes.specs.Scopes.{named, or_else, callee, entries_of, functions_of, Env, Scope, Callee, last_scope, but_last, opened, closed}
+use Rattle.scopes.specs.declared.environment.Row.{Row as CodeRow}
+use Rattle.scopes.specs.Scopes.{named, or_else, callee, row, entries_of, functions_of, rows_of, Env, Scope, Callee, Row, last_scope, but_last, opened, closed}
 
 -- a look-up in a map is one among the names
 pub lookup-named : {V : Type 0} (x : List ℕ) (es : List (Vec ℕ Global × V)) → lookup (λ k. pointwise nat_eq x k.items) es ≡ named x (map {B = List ℕ × V} (λ e. (e.0.items, e.1)) es)
@@ -35,6 +36,10 @@ named-mapped f x (e ∷ es) = mapped-if f (pointwise nat_eq x e.0.items) e.1 (na
 pub named_callee : (x : List ℕ) (n : Names CodeCallee) → named x (functions_of n) ≡ option_map callee (named x (entries_of n))
 named_callee x n = named-mapped callee x n.map.entries
 
+-- and so is a row
+pub named_row : (x : List ℕ) (n : Names CodeRow) → named x (rows_of n) ≡ option_map row (named x (entries_of n))
+named_row x n = named-mapped row x n.map.entries
+
 -- a new name goes last
 pub entries-append : {V : Type 0} (es : List (Vec ℕ Global × V)) (k : Vec ℕ Global) (v : V) (x : List ℕ) → k.items ≡ x → seen (es ++ (k, v) ∷ []) ≡ seen es ++ (x, v) ∷ []
 entries-append {V} es k v x h = map-append {B = List ℕ × V} (λ e. (e.0.items, e.1)) es ((k, v) ∷ []) ∙ ap (λ y. seen es ++ (y, v) ∷ []) h
@@ -52,8 +57,8 @@ but_last-append (a ∷ b ∷ o) s = ap (λ x. a ∷ x) (but_last-append (b ∷ o
 pub ends : (env : Env) (s : Scope) → closed (record (opened env) { innermost = s }) ≡ env
 ends env s = rw (last-append env.outer env.innermost, but_last-append env.outer env.innermost) refl
 
-pub closes : (d : Dialect) (old new : List Scope) (x i : Scope) (fs : List (List ℕ × Callee)) (h : ℕ) (n : Bool) → old ≡ new ++ x ∷ [] →
-    let before : Env = record { dialect = d; outer = old; innermost = i; functions = fs; here = h; calls_none = n } in
-    let after : Env = record { dialect = d; outer = new; innermost = x; functions = fs; here = h; calls_none = n } in
+pub closes : (d : Dialect) (rs : List ℕ → Option Row) (ns : List ℕ → Bool) (old new : List Scope) (x i : Scope) (fs : List (List ℕ × Callee)) (h : ℕ) (n : Bool) → old ≡ new ++ x ∷ [] →
+    let before : Env = record { dialect = d; rows = rs; neon = ns; outer = old; innermost = i; functions = fs; here = h; calls_none = n } in
+    let after : Env = record { dialect = d; rows = rs; neon = ns; outer = new; innermost = x; functions = fs; here = h; calls_none = n } in
     after ≡ closed before
-closes d old new x i fs h n e = rw (e, last-append new x, but_last-append new x) refl
+closes d rs ns old new x i fs h n e = rw (e, last-append new x, but_last-append new x) refl

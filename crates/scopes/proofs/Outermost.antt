@@ -1,9 +1,9 @@
 -- The file's scope stays where scopes open in it.
-use Rattle.std.proofs.Common.{◌≡◌, ◌∙◌, Bool, true, List, [], ◌∷◌, ◌++◌, Result, Ok, Err, refl, ap}
+use Rattle.std.proofs.Common.{◌≡◌, true, List, [], ◌∷◌, ◌++◌, Result, Ok, Err, refl}
 use Rattle.c_text.specs.declared.refusals.Fail.{Fail}
 use Rattle.c_text.specs.declared.refusals.Fail.TheVariants.{Refused, Memory}
 use Rattle.scopes.specs.Scopes.{Scope, Env, opened}
-use Rattle.scopes.specs.Kept.{outermost, at_file, has_scopes, is_inside, OnRefusal, OnAnswer}
+use Rattle.scopes.specs.Kept.{outermost, at_file, has_scopes, is_inside, OnRefusal}
 
 pub outermost-append : (o : List Scope) (s t : Scope) → outermost (o ++ s ∷ []) t ≡ outermost o s
 outermost-append [] s t = refl

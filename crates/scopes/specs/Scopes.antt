@@ -2,10 +2,12 @@
 use Rattle.std.specs.Prelude.{ℕ, Bool, if◌then◌else◌, List, [], ◌∷◌, ◌++◌, map, Option, Some, None, is_some, nat_eq}
 use Rattle.std.specs.Cmp.Lexicographic.{pointwise}
 use Rattle.c_text.specs.declared.tokens.Dialect.{Dialect}
+use Rattle.lane_core.specs.declared.table.ImmRange.{ImmRange}
 use Rattle.type_rules.specs.Passing.{Heading, heading}
 use Rattle.scopes.specs.declared.names.Names.{Names}
 use Rattle.scopes.specs.declared.environment.Object.{Object}
 use Rattle.scopes.specs.declared.environment.Callee.{Callee as CodeCallee}
+use Rattle.scopes.specs.declared.environment.Row.{Row as CodeRow}
 use Rattle.scopes.specs.declared.environment.Environment.{Environment}
 
 -- the two names are the same
@@ -26,10 +28,18 @@ pub record Callee : Type 0 where
   pub order : ℕ
   pub heading : Heading
 
--- what a place sees: the scopes around the innermost one, outermost first, the innermost scope, the functions of the whole unit, the
--- number of the unit's item that the place stands in, and whether that is a function that may call none of them
+-- a row of a table as calls see it: its heading, and the values that its immediate may have
+pub record Row : Type 0 where
+  pub heading : Heading
+  pub range : ImmRange
+
+-- what a place sees: the row of the dialect's table that has a name, whether a row of Neon's table has it, the scopes around the innermost
+-- one, outermost first, the innermost scope, the functions of the whole unit, the number of the unit's item that the place stands in, and
+-- whether that is a function that may call none of them
 pub record Env : Type 0 where
   pub dialect : Dialect
+  pub rows : List ℕ → Option Row
+  pub neon : List ℕ → Bool
   pub outer : List Scope
   pub innermost : Scope
   pub functions : List (List ℕ × Callee)
@@ -74,7 +84,7 @@ but_last (s ∷ t ∷ inner) = s ∷ but_last (t ∷ inner)
 abbrev pub closed : Env → Env
 closed env = record env { outer = but_last env.outer; innermost = last_scope env.outer }
 
--- what contracts see of the code's names, functions and environment
+-- what contracts see of the code's names, functions, rows and environment
 abbrev pub entries_of : {V : Type 0} → Names V → List (List ℕ × V)
 entries_of n = map (λ e. (e.0.items, e.1)) n.map.entries
 
@@ -84,9 +94,17 @@ callee c = record { order = c.order; heading = heading c.heading }
 abbrev pub functions_of : Names CodeCallee → List (List ℕ × Callee)
 functions_of n = map (λ e. (e.0.items, callee e.1)) n.map.entries
 
+abbrev pub row : CodeRow → Row
+row r = record { heading = heading r.heading; range = r.range }
+
+abbrev pub rows_of : Names CodeRow → List (List ℕ × Row)
+rows_of n = map (λ e. (e.0.items, row e.1)) n.map.entries
+
 abbrev pub env_of : Environment → Env
 env_of e = record {
   dialect = e.dialect;
+  rows = λ x. named x (rows_of e.rows);
+  neon = λ x. is_some (named x (entries_of e.neon));
   outer = map entries_of e.outer.items;
   innermost = entries_of e.innermost;
   functions = functions_of e.functions;

@@ -1,13 +1,13 @@
 //! What a place in a unit sees.
 
 ghost use Rattle.std.specs.Prelude.{◌≡◌, IfSome, IfNone, OnOk, Some, None, [], false, map};
-ghost use Rattle.scopes.specs.Scopes.{Env, named, callee, visible, entries_of, object_named, is_declared_here, with_object, opened, closed, env_of};
+ghost use Rattle.scopes.specs.Scopes.{Env, named, callee, row, visible, entries_of, rows_of, object_named, is_declared_here, with_object, opened, closed, env_of};
 
 use crate::names::Names;
 use c_text::Dialect;
 use c_tree::CType;
 use std::alloc::{AllocError, Global};
-use type_rules::Heading;
+use type_rules::{Heading, ImmRange};
 
 /// An object: its type, and whether it is const.
 #[derive(Clone, Copy, Debug, PartialEq, Eq)]
@@ -24,10 +24,22 @@ pub struct Callee {
     pub heading: Heading,
 }
 
+/// A row of a table, as calls see it.
+#[derive(Drop)]
+pub struct Row {
+    pub heading: Heading,
+    /// The values that its immediate may have.
+    pub range: ImmRange,
+}
+
 /// What a place in a unit sees.
 #[derive(Drop)]
 pub struct Environment {
     pub dialect: Dialect,
+    /// The rows of the dialect's table.
+    pub rows: Names<Row>,
+    /// The names of the rows of Neon's table.
+    pub neon: Names<()>,
     /// The scopes around the innermost one, outermost first.
     pub outer: Vec<Names<Object>>,
     pub innermost: Names<Object>,
@@ -52,6 +64,18 @@ fn visible(name: &[u8], scopes: &[Names<Object>]) -> Option<Object>
     found
 }
 
+/// The row that has the name.
+#[tactic(auto, using(crate::proofs::Entries::named_row))]
+pub fn row_named<'r>(rows: &'r Names<Row>, name: &[u8]) -> Option<&'r Row>
+    ensures found { IfSome result (λ r. named name.now (rows_of rows.now) ≡ Some (row r.now)) }
+    ensures none { IfNone result (named name.now (rows_of rows.now) ≡ None) }
+{
+    match rows.find(name) {
+        None => None,
+        Some(row) => Some(row),
+    }
+}
+
 impl Environment {
     /// The object that the name stands for, if it stands for one.
     pub fn object(&self, name: &[u8]) -> Option<Object>
@@ -73,6 +97,21 @@ impl Environment {
             None => None,
             Some(found) => Some(found),
         }
+    }
+
+    /// The row of the dialect's table that has the name.
+    pub fn row(&self, name: &[u8]) -> Option<&Row>
+        ensures found { IfSome result (λ r. (env_of self.now).rows name.now ≡ Some (row r.now)) }
+        ensures none { IfNone result ((env_of self.now).rows name.now ≡ None) }
+    {
+        row_named(&self.rows, name)
+    }
+
+    /// Whether a row of Neon's table has the name.
+    pub fn is_neon_row(&self, name: &[u8]) -> bool
+        ensures { result ≡ (env_of self.now).neon name.now }
+    {
+        self.neon.find(name).is_some()
     }
 
     /// Whether the innermost scope declares the name.

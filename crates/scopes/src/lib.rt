@@ -1,4 +1,4 @@
-//! The names that a place in a unit sees: objects in scopes, and functions of the unit (C11 6.2.1).
+//! The names that a place in a unit sees: objects in scopes, functions of the unit (C11 6.2.1), and rows of a table.
 //!
 //! Look-ups take the time of a few of a map: one for each scope around the place.
 #![tactic(auto)]
@@ -9,7 +9,7 @@ mod names;
 
 pub use c_text::Dialect;
 pub use c_tree::{CType, Text};
-pub use environment::{Callee, Environment, Object};
+pub use environment::{Callee, Environment, Object, Row, row_named};
 pub use laws::scopes_end;
 pub use names::Names;
-pub use type_rules::{Heading, Parameter};
+pub use type_rules::{Heading, ImmRange, Parameter};

@@ -21,10 +21,10 @@ use Rattle.object_types.specs.Typed as object
 use Rattle.object_types.specs.Typed.{TypedMember, TypedObject}
 use Rattle.statement_types.specs.Statements.{Around, with_objects, around, check_statements}
 use Rattle.statement_types.specs.Typed.{TypedStatements}
-use Rattle.order_rule.specs.Callees.{Callees}
+use Rattle.order_rule.specs.Callees.{Before, Callees}
 use Rattle.order_rule.specs.Full.{effects_of, order_of}
 use Rattle.order_rule.specs.Rule.{KeepsOrder}
-use Rattle.vector_types.specs.Order.{with_callee, Orderly}
+use Rattle.vector_types.specs.Order.{calls, with_callee, Orderly}
 use Rattle.vector_types.specs.Functions.{is_before, is_taken, function_name, is_bare, check_parameters, in_function, check_function}
 use Rattle.vector_types.specs.Tables.{is_table_type, table_name, judged_alignment, constant_value, check_table}
 use Rattle.vector_types.specs.Units.{function_checked, next_item, Judged, and_judged, check_items, unless_refused, answer}
@@ -183,20 +183,20 @@ module _ (types : (env : Env) (u v : Tree) → (check u env ≡ Ok v) ↔ Typed 
       by [] e h = let same : j.items ≡ more = cc in rw e (ap (λ l. unless_refused [] (g ∷ l)) same)
       by (r ∷ rs) e h = cc
 
-  function-judged : (env : Env) (callees : Callees) (f g : Definition) (rest more : List External) → function_checked f env callees ≡ Ok g →
-      answer (check_items rest (next_item env) (with_callee env.dialect f.name (effects_of g callees) callees)) ≡ Ok more → answer (check_items (tree.Function f ∷ rest) env callees) ≡ Ok (tree.Function g ∷ more)
+  function-judged : (env : Env) (callees : Before) (f g : Definition) (rest more : List External) → function_checked f env callees ≡ Ok g →
+      answer (check_items rest (next_item env) (with_callee env.dialect f.name (effects_of g (calls callees env)) callees)) ≡ Ok more → answer (check_items (tree.Function f ∷ rest) env callees) ≡ Ok (tree.Function g ∷ more)
   function-judged env callees f g rest more passes others = rw passes (judged-holds _ (tree.Function g) more others)
 
-  function-holds : (env : Env) (callees : Callees) (f g : Definition) → TypedFunction env f g → Orderly env.dialect callees g → function_checked f env callees ≡ Ok g
+  function-holds : (env : Env) (callees : Before) (f g : Definition) → TypedFunction env f g → Orderly env.dialect (calls callees env) g → function_checked f env callees ≡ Ok g
   function-holds env callees f g x k =
       let passes = function-passes env f g x in
-      rw passes (order-holds order env.dialect callees g k)
+      rw passes (order-holds order env.dialect (calls callees env) g k)
 
-  pub items-pass : (env : Env) (callees : Callees) (u v : List External) → TypedItems env callees u v → answer (check_items u env callees) ≡ Ok v
+  pub items-pass : (env : Env) (callees : Before) (u v : List External) → TypedItems env callees u v → answer (check_items u env callees) ≡ Ok v
   items-pass env callees u v (t.no_item e n) = refl
   items-pass env callees u v (t.one_function e n f g rest more x k y) =
       let passes = function-holds e n f g x k in
-      let others = items-pass (next_item e) (with_callee e.dialect f.name (effects_of g n) n) rest more y in
+      let others = items-pass (next_item e) (with_callee e.dialect f.name (effects_of g (calls n e)) n) rest more y in
       function-judged e n f g rest more passes others
   items-pass env callees u v (t.one_table e n d w is_static rest more x y) =
       let passes = table-passes e d w x in

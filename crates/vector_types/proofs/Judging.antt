@@ -8,7 +8,7 @@ use Rattle.c_tree.specs.View.{view_item}
 use Rattle.scopes.specs.Scopes.{Env, with_object}
 use Rattle.scopes.specs.Kept.{at_file, OnAnswer}
 use Rattle.expression_types.specs.Check.{Checked}
-use Rattle.order_rule.specs.Callees.{Callees}
+use Rattle.order_rule.specs.Callees.{Before}
 use Rattle.vector_types.specs.Functions.{is_taken}
 use Rattle.vector_types.specs.Tables.{check_table, refused_object, beyond_table}
 use Rattle.vector_types.specs.Units.{Judged, and_judged, item_checked, beyond_item, callees_beyond, next_item, check_items}
@@ -26,11 +26,18 @@ judged_behind : (front : Judged) (x : Checked External) (j : Judged) → behind 
 judged_behind front (Ok v) j = rw (append-nil front.refusals, append-one front.items j.items v) refl
 judged_behind front (Err r) j = rw (append-nil front.items, append-one front.refusals j.refusals r) refl
 
-pub one_more_judged : (w front front' : Judged) (all rest : List Item) (u : Item) (env env' : Env) (callees callees' : Callees) → w ≡ behind front (check_items (map view_item all) env callees) → all ≡ u ∷ rest →
+pub one_more_judged : (w front front' : Judged) (all rest : List Item) (u : Item) (env env' : Env) (callees callees' : Before) → w ≡ behind front (check_items (map view_item all) env callees) → all ≡ u ∷ rest →
     front' ≡ behind front (and_judged (item_checked (view_item u) env callees) nothing_judged) → env' ≡ next_item (beyond_item (view_item u) env) → callees' ≡ callees_beyond (view_item u) env callees →
     w ≡ behind front' (check_items (map view_item rest) env' callees')
 one_more_judged w front front' all rest u env env' callees callees' goes here grown e c =
     rw (grown, e, c, judged_behind front (item_checked (view_item u) env callees) (check_items (map view_item rest) (next_item (beyond_item (view_item u) env)) (callees_beyond (view_item u) env callees))) (goes ∙ rw here refl)
+
+nothing_behind : (front : Judged) → behind front nothing_judged ≡ front
+nothing_behind front = λ i. record { refusals = append-nil front.refusals i; items = append-nil front.items i }
+
+-- behind the last item
+pub all_judged : (w front : Judged) (rest : List Item) (env : Env) (callees : Before) → w ≡ behind front (check_items (map view_item rest) env callees) → rest ≡ [] → front ≡ w
+all_judged w front rest env callees goes e = sym (goes ∙ ap (λ l. behind front (check_items (map view_item l) env callees)) e ∙ nothing_behind front)
 
 -- the environment of the item that so many stand before
 abbrev pub at_item : ℕ → Env → Env

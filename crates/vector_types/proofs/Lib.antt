@@ -4,3 +4,4 @@ pub mod InOrder
 pub mod Judging
 pub mod Lists
 pub mod Sound
+pub mod TableRows

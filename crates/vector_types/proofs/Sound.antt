@@ -24,10 +24,10 @@ use Rattle.object_types.specs.Typed.{TypedMember, TypedObject}
 use Rattle.object_types.proofs.ObjectTests.{both, unnegated, absent, void-pointer-says}
 use Rattle.statement_types.specs.Statements.{Around, with_objects, around, check_statements}
 use Rattle.statement_types.specs.Typed.{TypedStatements}
-use Rattle.order_rule.specs.Callees.{Callees}
+use Rattle.order_rule.specs.Callees.{Before, Callees}
 use Rattle.order_rule.specs.Full.{effects_of, order_of}
 use Rattle.order_rule.specs.Rule.{KeepsOrder}
-use Rattle.vector_types.specs.Order.{effects_given, with_callee, Orderly}
+use Rattle.vector_types.specs.Order.{calls, effects_given, with_callee, Orderly}
 use Rattle.vector_types.specs.Functions.{is_before, is_taken, function_name, is_bare, without_length, check_parameter, check_parameters, in_function, check_function}
 use Rattle.vector_types.specs.Tables.{is_table_type, is_table, fits_file, table_name, judged_alignment, scalar_value, constant_value, check_table, beyond_table}
 use Rattle.vector_types.specs.Units.{function_checked, item_checked, beyond_item, next_item, Judged, and_judged, check_items, unless_refused, answer}
@@ -57,7 +57,7 @@ not_before : (o : Option Callee) (i : ℕ) → is_before o i ≡ false → (f : 
 not_before (Some g) i h f e l = let same : g ≡ f = cc in let order : g.order ≡ f.order = ap (λ (c : Callee). c.order) same in let late = ltb-false g.order i h in absurd (omega arith)
 not_before None i h f e l = cc
 
-define-says : (x : List ℕ) (env : Env) → is_reserved env.dialect x ≡ false → is_taken x env ≡ false → MayDefine env x
+define-says : (x : List ℕ) (env : Env) → is_reserved env.dialect (env.neon x) x ≡ false → is_taken x env ≡ false → MayDefine env x
 define-says x env r h =
     let q = neither (is_declared_here x env) (is_before (named x env.functions) env.here) h in
     record { unreserved = r; undeclared = absent (named x env.innermost) q.0; undefined = not_before (named x env.functions) env.here q.1 }
@@ -74,7 +74,7 @@ array-says (Pointer e c) h v = v
 
 name-says : (x : List ℕ) (p : Place) (u : CType) (env : Env) (b : Bool) → function_name x p u env ≡ Ok b → MayDefine env x × (is_array u ≡ false) × (is_void_pointer u ≡ false)
 name-says x p u env b h =
-    let r = otherwise (is_reserved env.dialect x) _ _ b h in
+    let r = otherwise (is_reserved env.dialect (env.neon x) x) _ _ b h in
     let k = otherwise (is_taken x env) _ _ b r.1 in
     let a = otherwise (is_array u) _ _ b k.1 in
     let v = otherwise (is_void_pointer u) _ _ b a.1 in
@@ -103,7 +103,7 @@ begins-says None (Some y) h e k = cc
 
 table-name-says : (d : Object) (u : CType) (env : Env) (b : Bool) → table_name d u env ≡ Ok b → MayDefine env d.name × (d.constant ≡ true) × (is_table d u ≡ true)
 table-name-says d u env b h =
-    let r = otherwise (is_reserved env.dialect d.name) _ _ b h in
+    let r = otherwise (is_reserved env.dialect (env.neon d.name) d.name) _ _ b h in
     let k = otherwise (is_taken d.name env) _ _ b r.1 in
     let f = otherwise (not (fits_file d u)) _ _ b k.1 in
     let c = otherwise (not d.constant) _ _ b f.1 in
@@ -188,21 +188,21 @@ module _ (types : (env : Env) (u v : Tree) → (check u env ≡ Ok v) ↔ Typed 
       by [] e h = let same : g ∷ j.items ≡ v = cc in (g, j.items, refl, ap (λ rs. unless_refused rs j.items) e, same)
       by (r ∷ rs) e h = cc
 
-  function-says : (env : Env) (callees : Callees) (f g : Definition) → function_checked f env callees ≡ Ok g → TypedFunction env f g × Orderly env.dialect callees g
+  function-says : (env : Env) (callees : Before) (f g : Definition) → function_checked f env callees ≡ Ok g → TypedFunction env f g × Orderly env.dialect (calls callees env) g
   function-says env callees f g h =
       let x = after (check_function f env) _ g h in
-      let q = order-says order env.dialect callees x.first g x.goes in
-      subst (λ y. TypedFunction env f y × Orderly env.dialect callees y) q.1 (function-typed env f x.first x.gives, q.0)
+      let q = order-says order env.dialect (calls callees env) x.first g x.goes in
+      subst (λ y. TypedFunction env f y × Orderly env.dialect (calls callees env) y) q.1 (function-typed env f x.first x.gives, q.0)
 
-  pub items-typed : (u : List External) (env : Env) (callees : Callees) (v : List External) → answer (check_items u env callees) ≡ Ok v → TypedItems env callees u v
+  pub items-typed : (u : List External) (env : Env) (callees : Before) (v : List External) → answer (check_items u env callees) ≡ Ok v → TypedItems env callees u v
   items-typed [] env callees v h = let e : [] ≡ v = cc in subst (TypedItems env callees []) e (t.no_item env callees)
   items-typed (tree.Function f ∷ rest) env callees v h =
       let q = judged-says (item_checked (tree.Function f) env callees) _ v h in
       let x = after (function_checked f env callees) _ q.0 q.2 in
       let k = function-says env callees f x.first x.gives in
-      let passes : answer (check_items rest (next_item env) (with_callee env.dialect f.name (effects_of x.first callees) callees)) ≡ Ok q.1 =
-      subst (λ r. answer (check_items rest (next_item env) (with_callee env.dialect f.name (effects_given r callees) callees)) ≡ Ok q.1) x.gives q.3 in
-      let others = items-typed rest (next_item env) (with_callee env.dialect f.name (effects_of x.first callees) callees) q.1 passes in
+      let passes : answer (check_items rest (next_item env) (with_callee env.dialect f.name (effects_of x.first (calls callees env)) callees)) ≡ Ok q.1 =
+      subst (λ r. answer (check_items rest (next_item env) (with_callee env.dialect f.name (effects_given r (calls callees env)) callees)) ≡ Ok q.1) x.gives q.3 in
+      let others = items-typed rest (next_item env) (with_callee env.dialect f.name (effects_of x.first (calls callees env)) callees) q.1 passes in
       let same : tree.Function x.first ≡ q.0 = cc in
       subst (TypedItems env callees (tree.Function f ∷ rest)) q.4 (subst (λ g. TypedItems env callees (tree.Function f ∷ rest) (g ∷ q.1)) same (t.one_function env callees f x.first rest q.1 k.0 k.1 others))
   items-typed (tree.Table d is_static ∷ rest) env callees v h =

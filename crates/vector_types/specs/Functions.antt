@@ -53,7 +53,7 @@ is_taken x env = is_declared_here x env || is_before (named x env.functions) env
 -- no array (11, 6.7.6.3p1) and no pointer to void (18)
 abbrev pub function_name : List ℕ → Place → CType → Env → Checked Bool
 function_name x p t env =
-    if is_reserved env.dialect x then refuse 12 p (short x)
+    if is_reserved env.dialect (env.neon x) x then refuse 12 p (short x)
     else if is_taken x env then refuse 11 p (short x)
     else if is_array t then refuse 11 p (short x)
     else if is_void_pointer t then refuse 18 p (short x)
@@ -81,8 +81,11 @@ is_helper Neon x = starts_with nat_eq x (codes "mg_")
 
 -- What a function's parts see: the file's scope around one of their own, which the parameters and the outermost block of the body share
 -- (6.2.1p4).
+abbrev pub entered : List ℕ → Env → Env
+entered x env = opened (record env { calls_none = is_helper env.dialect x })
+
 abbrev pub in_function : Definition → Env → Env
-in_function f env = opened (record env { calls_none = is_helper env.dialect f.name })
+in_function f env = entered f.name env
 
 -- a function with its types
 abbrev pub check_function : Definition → Env → Checked Definition

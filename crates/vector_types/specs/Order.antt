@@ -4,12 +4,16 @@ use Rattle.c_text.specs.declared.tokens.Dialect.{Dialect}
 use Rattle.c_text.specs.declared.tokens.Dialect.TheVariants.{X86, Neon}
 use Rattle.c_text.specs.declared.refusals.Refusal.{Refusal}
 use Rattle.c_tree.specs.Tree.{Definition}
-use Rattle.scopes.specs.Scopes.{named}
+use Rattle.scopes.specs.Scopes.{Env, named}
 use Rattle.expression_types.specs.Check.{Checked}
 use Rattle.order_rule.specs.declared.callees.Effects.{Effects}
-use Rattle.order_rule.specs.Callees.{Callees}
+use Rattle.order_rule.specs.Callees.{Before, Callees}
 use Rattle.order_rule.specs.Full.{effects_of, order_of}
 use Rattle.order_rule.specs.Rule.{KeepsOrder}
+
+-- what a function of a unit may call: those before it, and the rows of the dialect's table
+abbrev pub calls : Before → Env → Callees
+calls before env = record { before = before; rows = env.rows }
 
 -- a function that has its types, unless the order rule refuses it
 abbrev pub unless_broken : Option Refusal → Definition → Checked Definition
@@ -26,9 +30,9 @@ effects_given (Ok g) callees = effects_of g callees
 effects_given (Err r) callees = record { stores = false; reads = false }
 
 -- one more function, by what it may do; a name stands for the first function that has it
-abbrev pub with_callee : Dialect → List ℕ → Effects → Callees → Callees
-with_callee X86 x e callees = if is_some (named x callees) then callees else callees ++ (x, e) ∷ []
-with_callee Neon x e callees = callees
+abbrev pub with_callee : Dialect → List ℕ → Effects → Before → Before
+with_callee X86 x e before = if is_some (named x before) then before else before ++ (x, e) ∷ []
+with_callee Neon x e before = before
 
 -- the function keeps the order rule, where its dialect has it
 abbrev pub Orderly : Dialect → Callees → Definition → Type 0

@@ -31,7 +31,7 @@ fits_file d t = if d.constant then is_table d t else is_object_type t
 -- const is left out (18).
 abbrev pub table_name : Object → CType → Env → Checked Bool
 table_name d t env =
-    if is_reserved env.dialect d.name then refuse 12 d.place (short d.name)
+    if is_reserved env.dialect (env.neon d.name) d.name then refuse 12 d.place (short d.name)
     else if is_taken d.name env then refuse 11 d.place (short d.name)
     else if not (fits_file d t) then refuse 11 d.place (short d.name)
     else if not d.constant then refuse 18 d.place (short d.name)

@@ -14,15 +14,15 @@ use Rattle.object_types.specs.Objects.{known, behind_declarator}
 use Rattle.object_types.specs.Typed.{TypedMember, TypedObject}
 use Rattle.statement_types.specs.Statements.{with_objects, around}
 use Rattle.statement_types.specs.Typed.{TypedStatements}
-use Rattle.order_rule.specs.Callees.{Callees}
+use Rattle.order_rule.specs.Callees.{Before}
 use Rattle.order_rule.specs.Full.{effects_of}
 use Rattle.vector_types.specs.Functions.{without_length, in_function}
-use Rattle.vector_types.specs.Order.{with_callee, Orderly}
+use Rattle.vector_types.specs.Order.{calls, with_callee, Orderly}
 use Rattle.vector_types.specs.Units.{next_item, unit_env}
 
 -- A function or a table may have the name: it isn't reserved, and neither a table (6.7p3) nor a function (6.9p3) that stands before has it.
 pub record MayDefine (env : Env) (x : List ℕ) : Type 0 where
-  pub unreserved : is_reserved env.dialect x ≡ false
+  pub unreserved : is_reserved env.dialect (env.neon x) x ≡ false
   pub undeclared : named x env.innermost ≡ None
   pub undefined : (f : Callee) → named x env.functions ≡ Some f → f.order < env.here → ⊥
 
@@ -62,11 +62,11 @@ pub record TypedTable (env : Env) (d v : Object) : Type 0 where
 
 -- Items in a row: each sees the tables before it (6.2.1p4, p7), and the functions of the whole unit by their headings. Each function keeps the
 -- order rule, given what those before it may do.
-pub data TypedItems : Env → Callees → List External → List External → Type 0 where
-  no_item : (env : Env) (callees : Callees) → TypedItems env callees [] []
-  one_function : (env : Env) (callees : Callees) (f g : Definition) (rest more : List External) → TypedFunction env f g → Orderly env.dialect callees g →
-      TypedItems (next_item env) (with_callee env.dialect f.name (effects_of g callees) callees) rest more → TypedItems env callees (Function f ∷ rest) (Function g ∷ more)
-  one_table : (env : Env) (callees : Callees) (d v : Object) (is_static : Bool) (rest more : List External) → TypedTable env d v → TypedItems (next_item (with_object v.name (known v.constant v.ty) env)) callees rest more →
+pub data TypedItems : Env → Before → List External → List External → Type 0 where
+  no_item : (env : Env) (callees : Before) → TypedItems env callees [] []
+  one_function : (env : Env) (callees : Before) (f g : Definition) (rest more : List External) → TypedFunction env f g → Orderly env.dialect (calls callees env) g →
+      TypedItems (next_item env) (with_callee env.dialect f.name (effects_of g (calls callees env)) callees) rest more → TypedItems env callees (Function f ∷ rest) (Function g ∷ more)
+  one_table : (env : Env) (callees : Before) (d v : Object) (is_static : Bool) (rest more : List External) → TypedTable env d v → TypedItems (next_item (with_object v.name (known v.constant v.ty) env)) callees rest more →
       TypedItems env callees (Table d is_static ∷ rest) (Table v is_static ∷ more)
 
 abbrev pub TypedUnit : Dialect → List External → List External → Type 0

@@ -5,17 +5,18 @@ use Rattle.c_text.specs.declared.refusals.Refusal.{Refusal}
 use Rattle.c_tree.specs.Tree.{Definition, External, Function, Table}
 use Rattle.scopes.specs.Scopes.{Env}
 use Rattle.expression_types.specs.Check.{◌>>=◌, Checked}
-use Rattle.order_rule.specs.Callees.{Callees}
+use Rattle.order_rule.specs.Callees.{Before}
+use Rattle.vector_types.specs.Rows.{row_of_table, is_neon_row}
 use Rattle.vector_types.specs.Functions.{with_items, check_function}
 use Rattle.vector_types.specs.Tables.{check_table, beyond_table}
-use Rattle.vector_types.specs.Order.{in_order, effects_given, with_callee}
+use Rattle.vector_types.specs.Order.{calls, in_order, effects_given, with_callee}
 
 -- a function with its types, which keeps the order rule; `callees` are those before it
-abbrev pub function_checked : Definition → Env → Callees → Checked Definition
-function_checked f env callees = check_function f env >>= λ g. in_order env.dialect callees g
+abbrev pub function_checked : Definition → Env → Before → Checked Definition
+function_checked f env callees = check_function f env >>= λ g. in_order env.dialect (calls callees env) g
 
 -- a function or a table with its types
-abbrev pub item_checked : External → Env → Callees → Checked External
+abbrev pub item_checked : External → Env → Before → Checked External
 item_checked (Function f) env callees = function_checked f env callees >>= λ v. Ok (Function v)
 item_checked (Table d is_static) env callees = check_table d env >>= λ v. Ok (Table v is_static)
 
@@ -26,8 +27,8 @@ beyond_item (Function f) env = env
 beyond_item (Table d is_static) env = beyond_table d (check_table d env) env
 
 -- the functions before the item behind one, by what they may do
-abbrev pub callees_beyond : External → Env → Callees → Callees
-callees_beyond (Function f) env callees = with_callee env.dialect f.name (effects_given (function_checked f env callees) callees) callees
+abbrev pub callees_beyond : External → Env → Before → Before
+callees_beyond (Function f) env callees = with_callee env.dialect f.name (effects_given (function_checked f env callees) (calls callees env)) callees
 callees_beyond (Table d is_static) env callees = callees
 
 abbrev pub next_item : Env → Env
@@ -42,13 +43,13 @@ abbrev pub and_judged : Checked External → Judged → Judged
 and_judged (Ok v) j = record j { items = v ∷ j.items }
 and_judged (Err r) j = record j { refusals = r ∷ j.refusals }
 
-abbrev pub check_items : List External → Env → Callees → Judged
+abbrev pub check_items : List External → Env → Before → Judged
 check_items [] env callees = record { refusals = []; items = [] }
 check_items (u ∷ rest) env callees = and_judged (item_checked u env callees) (check_items rest (next_item (beyond_item u env)) (callees_beyond u env callees))
 
 -- what the first item of a unit sees
 abbrev pub unit_env : Dialect → List External → Env
-unit_env dialect u = record { dialect = dialect; outer = []; innermost = []; functions = with_items dialect 0 u []; here = 0; calls_none = false }
+unit_env dialect u = record { dialect = dialect; rows = row_of_table dialect; neon = is_neon_row; outer = []; innermost = []; functions = with_items dialect 0 u []; here = 0; calls_none = false }
 
 -- a unit passes where all of its items do
 abbrev pub unless_refused : List Refusal → List External → Result (List External) (List Refusal)

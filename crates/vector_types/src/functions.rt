@@ -7,7 +7,7 @@ ghost use Rattle.scopes.specs.Kept.{at_file, is_inside, OnRefusal, OnAnswer};
 ghost use Rattle.expression_types.specs.Check.{Gives};
 ghost use Rattle.object_types.specs.Objects.{known};
 ghost use Rattle.statement_types.specs.Statements.{with_objects};
-ghost use Rattle.vector_types.specs.Functions.{function_name, is_bare, check_parameter, check_parameters, is_helper, check_function};
+ghost use Rattle.vector_types.specs.Functions.{function_name, is_bare, check_parameter, check_parameters, is_helper, entered, check_function};
 
 use crate::file_scope::is_taken;
 use c_text::{Dialect, Text};
@@ -15,7 +15,7 @@ use c_tree::{CType, Declared, Function, Place};
 use expression_types::{Environment, Fail, name_fault};
 use object_types::{check_object, is_array, is_reserved};
 use statement_types::check_body;
-use std::alloc::Global;
+use std::alloc::{AllocError, Global};
 use type_rules::{is_void_pointer, read_type};
 
 // The name of a function that gives the type `t`.
@@ -28,7 +28,7 @@ fn function_name(
 ) -> Result<(), Fail>
     ensures { Gives (λ _. true) result (function_name name.now place t (env_of env.now)) }
 {
-    if is_reserved(env.dialect, name.bytes()) {
+    if is_reserved(env.dialect, env.is_neon_row(name.bytes()), name.bytes()) {
         Err(name_fault(alloc, 12, place, name)?)
     } else if is_taken(env, name.bytes()) {
         Err(name_fault(alloc, 11, place, name)?)
@@ -89,6 +89,15 @@ fn is_helper(dialect: Dialect, name: &[u8]) -> bool
     }
 }
 
+// Opens the scope of a function's own that has the name.
+fn enter(alloc: Global, env: &mut Environment, name: &Text) -> Result<(), AllocError>
+    ensures { OnOk result (env_of env.new ≡ entered name.now (env_of env.old)) }
+{
+    env.calls_none = is_helper(env.dialect, name.bytes());
+    env.open(alloc)?;
+    Ok(())
+}
+
 /// A function with its types. The file's scope is as before afterwards; others may be open.
 pub fn check_function(alloc: Global, env: &mut Environment, f: &Function) -> Result<Function, Fail>
     ensures value { Gives view_function result (check_function (view_function f.now) (env_of env.old)) }
@@ -96,8 +105,7 @@ pub fn check_function(alloc: Global, env: &mut Environment, f: &Function) -> Res
 {
     let result = read_type(env.dialect, f.result);
     function_name(alloc, &*env, &f.name, f.place, result)?;
-    env.calls_none = is_helper(env.dialect, f.name.bytes());
-    env.open(alloc)?;
+    enter(alloc, env, &f.name)?;
     let params = check_parameters(alloc, env, f.params.as_slice())?;
     let body = check_body(alloc, env, result, f.body.as_slice())?;
     let name = f.name.copy(alloc)?;

@@ -4,28 +4,39 @@ ghost use Rattle.std.specs.Prelude.{◌≡◌, IfOk, OnOk};
 ghost use Rattle.c_text.specs.declared.tokens.Dialect.TheVariants.{X86};
 ghost use Rattle.c_tree.specs.Tree.{Definition};
 ghost use Rattle.c_tree.specs.View.{view_function};
-ghost use Rattle.scopes.specs.Scopes.{entries_of};
+ghost use Rattle.scopes.specs.Scopes.{entries_of, env_of};
 ghost use Rattle.expression_types.specs.Check.{Checked, Gives};
-ghost use Rattle.vector_types.specs.Order.{in_order, effects_given, with_callee};
+ghost use Rattle.order_rule.specs.Callees.{callees_of};
+ghost use Rattle.vector_types.specs.Order.{calls, in_order, effects_given, with_callee};
 
 use c_text::Dialect;
 use c_tree::Function;
-use expression_types::Fail;
-use order_rule::{Effects, Names, check_order, effects};
+use expression_types::{Environment, Fail};
+use order_rule::{Callees, Effects, Names, check_order, effects};
 use std::alloc::{AllocError, Global};
+
+// What a function may call: those before it, and the rows.
+fn calls<'c>(env: &'c Environment, callees: &'c Names<Effects>) -> Callees<'c>
+    ensures { callees_of result ≡ calls (entries_of callees.now) (env_of env.now) }
+{
+    Callees {
+        before: callees,
+        rows: &env.rows,
+    }
+}
 
 /// A function that has its types, if it keeps the order rule.
 pub fn in_order(
     alloc: Global,
-    dialect: Dialect,
+    env: &Environment,
     callees: &Names<Effects>,
     f: Function,
 ) -> Result<Function, Fail>
-    ensures { Gives view_function result (in_order dialect (entries_of callees.now) (view_function f)) }
+    ensures { Gives view_function result (in_order (env_of env.now).dialect (calls (entries_of callees.now) (env_of env.now)) (view_function f)) }
 {
-    match dialect {
+    match env.dialect {
         Dialect::X86 => {
-            check_order(alloc, &f, callees)?;
+            check_order(alloc, &f, &calls(env, callees))?;
             Ok(f)
         }
         Dialect::Neon => Ok(f),
@@ -35,13 +46,14 @@ pub fn in_order(
 // What a function may do, where it passed. One that is refused neither stores nor reads memory.
 fn effects_given(
     alloc: Global,
+    env: &Environment,
     callees: &Names<Effects>,
     answer: &Result<Function, Fail>,
 ) -> Result<Effects, AllocError>
-    ensures { (x : Checked Definition) → Gives view_function answer.now x → IfOk result (λ e. e ≡ effects_given x (entries_of callees.now)) }
+    ensures { (x : Checked Definition) → Gives view_function answer.now x → IfOk result (λ e. e ≡ effects_given x (calls (entries_of callees.now) (env_of env.now))) }
 {
     match answer {
-        Ok(f) => effects(alloc, f, callees),
+        Ok(f) => effects(alloc, f, &calls(env, callees)),
         Err(Fail::Refused(_)) => Ok(Effects {
             stores: false,
             reads: false,
@@ -68,16 +80,16 @@ fn add_callee(
 /// One more function, whose check gave that answer, for the order rule of those behind it.
 pub fn add_answer(
     alloc: Global,
-    dialect: Dialect,
+    env: &Environment,
     callees: &mut Names<Effects>,
     name: &[u8],
     answer: &Result<Function, Fail>,
 ) -> Result<(), AllocError>
-    ensures { (x : Checked Definition) → Gives view_function answer.now x → OnOk result (entries_of callees.new ≡ with_callee dialect name.now (effects_given x (entries_of callees.old)) (entries_of callees.old)) }
+    ensures { (x : Checked Definition) → Gives view_function answer.now x → OnOk result (entries_of callees.new ≡ with_callee (env_of env.now).dialect name.now (effects_given x (calls (entries_of callees.old) (env_of env.now))) (entries_of callees.old)) }
 {
-    match dialect {
+    match env.dialect {
         Dialect::X86 => {
-            let effects = effects_given(alloc, &*callees, answer)?;
+            let effects = effects_given(alloc, env, &*callees, answer)?;
             add_callee(alloc, callees, name, effects)
         }
         Dialect::Neon => Ok(()),

@@ -51,7 +51,7 @@ fn fits_file(d: &Declared, t: CType) -> bool
 fn table_name(alloc: Global, env: &Environment, d: &Declared, t: CType) -> Result<(), Fail>
     ensures { Gives (λ _. true) result (table_name (view_declared d.now) t (env_of env.now)) }
 {
-    if is_reserved(env.dialect, d.name.bytes()) {
+    if is_reserved(env.dialect, env.is_neon_row(d.name.bytes()), d.name.bytes()) {
         Err(name_fault(alloc, 12, d.place, &d.name)?)
     } else if is_taken(env, d.name.bytes()) {
         Err(name_fault(alloc, 11, d.place, &d.name)?)

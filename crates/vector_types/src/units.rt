@@ -8,14 +8,15 @@ ghost use Rattle.scopes.specs.Kept.{at_file, OnAnswer};
 ghost use Rattle.expression_types.specs.Check.{Checked, Gives};
 ghost use Rattle.vector_types.specs.declared.units.CheckFail.TheVariants.{Memory};
 ghost use Rattle.vector_types.specs.Functions.{check_function};
-ghost use Rattle.vector_types.specs.Units.{function_checked, item_checked, beyond_item, callees_beyond, and_judged, check_items, check_unit};
-ghost use Rattle.vector_types.specs.Order.{effects_given, with_callee};
+ghost use Rattle.vector_types.specs.Units.{function_checked, item_checked, beyond_item, callees_beyond, and_judged, check_items, unit_env, check_unit};
+ghost use Rattle.vector_types.specs.Order.{calls, effects_given, with_callee};
 ghost use Rattle.vector_types.specs.Answers.{judged_of, nothing_judged, behind, is_answer, IfRefused};
 
 use crate::file_scope::end_item;
 use crate::functions::check_function;
 use crate::headings::functions;
 use crate::order::{add_answer, in_order};
+use crate::rows::{neon_names, rows_of_table};
 use crate::tables::check_table;
 use crate::typed_unit::TypedUnit;
 use c_text::{Dialect, Refusal};
@@ -77,9 +78,8 @@ fn function_checked(
     ensures value { Gives view_function result (function_checked (view_function f.now) (env_of env.old) (entries_of callees.now)) }
     ensures names { OnAnswer result (env_of env.new ≡ env_of env.old) }
 {
-    let dialect = env.dialect;
     let typed = function_typed(alloc, env, f)?;
-    in_order(alloc, dialect, callees, typed)
+    in_order(alloc, &*env, callees, typed)
 }
 
 // The same, noted for the functions behind it.
@@ -92,11 +92,10 @@ fn function_item(
     requires { env_of env.old ≡ at_file (env_of env.old) }
     ensures value { Gives view_function result (function_checked (view_function f.now) (env_of env.old) (entries_of callees.old)) }
     ensures names { OnAnswer result (env_of env.new ≡ env_of env.old) }
-    ensures callees { OnAnswer result (entries_of callees.new ≡ with_callee (env_of env.old).dialect f.now.name (effects_given (function_checked (view_function f.now) (env_of env.old) (entries_of callees.old)) (entries_of callees.old)) (entries_of callees.old)) }
+    ensures callees { OnAnswer result (entries_of callees.new ≡ with_callee (env_of env.old).dialect f.now.name (effects_given (function_checked (view_function f.now) (env_of env.old) (entries_of callees.old)) (calls (entries_of callees.old) (env_of env.old))) (entries_of callees.old)) }
 {
-    let dialect = env.dialect;
     let answer = function_checked(alloc, env, &*callees, f);
-    add_answer(alloc, dialect, callees, f.name.bytes(), &answer)?;
+    add_answer(alloc, &*env, callees, f.name.bytes(), &answer)?;
     answer
 }
 
@@ -151,6 +150,29 @@ fn check_items(alloc: Global, mut env: Environment, items: &[Item]) -> Result<Ju
     Ok(judged)
 }
 
+// What the first item of a unit sees.
+fn unit_environment(
+    alloc: Global,
+    dialect: Dialect,
+    items: &[Item],
+) -> Result<Environment, AllocError>
+    ensures { IfOk result (λ env. env_of env ≡ unit_env dialect (map view_item items.now)) }
+{
+    let rows = rows_of_table(alloc, dialect)?;
+    let neon = neon_names(alloc)?;
+    let functions = functions(alloc, dialect, items)?;
+    Ok(Environment {
+        dialect,
+        rows,
+        neon,
+        outer: Vec::new(alloc),
+        innermost: Names::new(alloc),
+        functions,
+        here: 0,
+        calls_none: false,
+    })
+}
+
 /// The unit with its types, or one refusal for each of its functions and tables that is refused: that of its first failing node. Where no node
 /// of a function fails, in the x86 dialect it is that of the first part of a full expression that breaks the order rule. A cast that isn't written
 /// is passed over, so a unit that was typed may be checked again.
@@ -160,15 +182,7 @@ pub fn check(alloc: Global, unit: &Unit, dialect: Dialect) -> Result<TypedUnit, 
     ensures refused { IfErr result (λ e. IfRefused e (λ list. check_unit dialect (view_unit unit.now) ≡ Err list)) }
     ensures some { IfErr result (λ e. IfRefused e (λ list. 0 < length list)) }
 {
-    let functions = functions(alloc, dialect, unit.items.as_slice())?;
-    let env = Environment {
-        dialect,
-        outer: Vec::new(alloc),
-        innermost: Names::new(alloc),
-        functions,
-        here: 0,
-        calls_none: false,
-    };
+    let env = unit_environment(alloc, dialect, unit.items.as_slice())?;
     let judged = check_items(alloc, env, unit.items.as_slice())?;
     match judged.refusals.as_slice().split_first() {
         None => Ok(TypedUnit::new(

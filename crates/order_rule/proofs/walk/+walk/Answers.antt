@@ -1,7 +1,7 @@
-use Rattle.std.proofs.Common.{◌≡◌, ◌∙◌, List, IfOk, sym, ap, subst}
+use Rattle.std.proofs.Common.{◌≡◌, ◌∙◌, IfOk, sym, ap, subst}
 use Rattle.c_tree.specs.Tree.{If}
 use Rattle.c_tree.specs.View.{view, view_stmt, view_stmts, view_optional}
-use Rattle.scopes.specs.Scopes.{entries_of}
+use Rattle.order_rule.specs.Callees.{callees_of}
 use Rattle.address_taken.specs.Taken.{seen_all}
 use Rattle.order_rule.specs.Memory.{env_of, opened, closed}
 use Rattle.order_rule.specs.Full.{inner, behind, beyond, beyond_optional, beyond_all, full_statement, full_statements, noted_all, found}
@@ -23,7 +23,7 @@ in_scope-returns-clause-names t c =
 
 pub statement-returns-in-Block-clause-found : goal.statement-returns-in-Block-clause-found
 statement-returns-in-Block-clause-found t c = λ more.
-    let callees = entries_of c.args.callees.now in
+    let callees = callees_of c.args.callees.now in
     let ts = seen_all c.args.parts.now in
     let env = env_of c.args.memory.now in
     let f = found c.args.before in
@@ -33,9 +33,9 @@ statement-returns-in-Block-clause-found t c = λ more.
     ap (λ i. noted_all callees (full_statements (view_stmts c.as_slice-in-Block.result.now) i (opened env) more) f) (sym c.inner.ensures) in
     subst (λ n. IfOk c.block.result (λ g. n ≡ noted_all callees more (found g))) (sym whole) (c.block.ensures.found more)
 
-pub statement-returns-in_ok-now-in-If-clause-found : goal.statement-returns-in_ok-now-in-If-clause-found
-statement-returns-in_ok-now-in-If-clause-found t c = λ more.
-    let callees = entries_of c.args.callees.now in
+pub statement-returns-in_ok-now-in-If-2-clause-found : goal.statement-returns-in_ok-now-in-If-2-clause-found
+statement-returns-in_ok-now-in-If-2-clause-found t c = λ more.
+    let callees = callees_of c.args.callees.now in
     let ts = seen_all c.args.parts.now in
     let env = env_of c.args.memory.now in
     let f = found c.args.before in
@@ -43,14 +43,14 @@ statement-returns-in_ok-now-in-If-clause-found t c = λ more.
     ap (λ s. noted_all callees (full_statement (view_stmt s) ts env more) f) c.in-If.is ∙ ap (λ s. noted_all callees (full_statement s ts env more) f) (if_seen c.in-If.c c.in-If.s c.in-If.other) ∙
     ap (λ s. noted_all callees (full_statement (If (view c.in-If.c) (view_stmt s) (view_optional c.in-If.other)) ts env more) f) (sym c.deref.ensures) ∙
     if_found callees (view c.in-If.c) (view_stmt c.deref.result.now) (view_optional c.in-If.other) ts (seen_all c.inner-in-If.result.now) (seen_all c.behind.result.now) env (env_of c.in_scope.new.memory) more f
-    (found c.note-now.result) (found c.in_ok-now-in-If.now) c.inner-in-If.ensures (c.behind.ensures ∙ ap behind c.inner-in-If-2.ensures) c.note-now.ensures c.in_ok-now-in-If.ensures.found c.in_ok-now-in-If.ensures.names in
+    (found c.in_ok-now-in-If.now) (found c.in_ok-now-in-If-2.now) c.inner-in-If.ensures (c.behind.ensures ∙ ap behind c.inner-in-If-2.ensures) c.in_ok-now-in-If.ensures c.in_ok-now-in-If-2.ensures.found c.in_ok-now-in-If-2.ensures.names in
     subst (λ n. IfOk c.optional_in_scope.result (λ g. n ≡ noted_all callees more (found g))) (sym whole) (c.optional_in_scope.ensures.found more)
 
-pub statement-returns-in_ok-now-in-For-2-clause-names : goal.statement-returns-in_ok-now-in-For-2-clause-names
-statement-returns-in_ok-now-in-For-2-clause-names t c =
+pub statement-returns-in_ok-now-in-For-4-clause-names : goal.statement-returns-in_ok-now-in-For-4-clause-names
+statement-returns-in_ok-now-in-For-4-clause-names t c =
     let i = view_optional c.in-For.i in
     let its = seen_all c.inner-in-For.result.now in
     let ts = seen_all c.args.parts.now in
     let env = env_of c.args.memory.now in
-    c.close.ensures ∙ ap closed (c.in_ok-now-in-For-2.ensures.names ∙ c.in_ok-now-in-For.ensures.names ∙ ap (beyond_optional i its) c.in_ok-open-in-For.ensures) ∙ optional-ends i its env ∙
+    c.close.ensures ∙ ap closed (c.in_ok-now-in-For-4.ensures.names ∙ c.in_ok-now-in-For.ensures.names ∙ ap (beyond_optional i its) c.in_ok-open-in-For.ensures) ∙ optional-ends i its env ∙
     sym (ap (λ s. beyond (view_stmt s) ts env) c.in-For.is ∙ ap (λ s. beyond s ts env) (for_seen c.in-For.i c.in-For.c c.in-For.n c.in-For.s))

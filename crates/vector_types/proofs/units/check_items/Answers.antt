@@ -1,10 +1,10 @@
-use Rattle.std.proofs.Common.{◌≡◌, ◌∙◌, ◌+◌, ◌∷◌, drop, ap, sym, arith}
+use Rattle.std.proofs.Common.{◌≡◌, ◌∙◌, ◌+◌, [], ◌∷◌, drop, ap, sym, arith}
 use Rattle.std.proofs.lemmas.Grind.{common_steps}
 use Rattle.c_tree.specs.View.{view_item}
 use Rattle.scopes.specs.Scopes.{env_of, entries_of}
 use Rattle.scopes.specs.Kept.{at_file}
 use Rattle.vector_types.specs.Units.{item_checked, beyond_item, callees_beyond}
-use Rattle.vector_types.proofs.Judging.{at_item, answered, beyond_file, beyond_next, one_more_judged}
+use Rattle.vector_types.proofs.Judging.{at_item, answered, beyond_file, beyond_next, one_more_judged, all_judged}
 use Rattle.vector_types.proofs.units.check_items.Goals as goal
 
 pub loop-item-preserved : goal.loop-item-preserved
@@ -24,3 +24,8 @@ loop-item-preserved c =
           one_more_judged _ _ _ _ _ c.item-item.result now _ callees _ c.loop-item.invariant.goes here (c.in_ok-judge.ensures.judged (item_checked u now callees) c.item_checked-answer.ensures.value)
           (ap (at_item (c.loop-item.here + 1)) names ∙ beyond_next u c.loop-item.here env) noted;
     }
+
+pub returns : goal.returns
+returns c =
+    let past : drop c.loop-item.item-index c.args.items.now ≡ [] = grind (arith, common_steps) in
+    all_judged _ _ _ _ _ c.loop-item.invariant.goes past
