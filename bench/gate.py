@@ -1,5 +1,5 @@
 #!/usr/bin/env python3
-"""What the gate costs, crate by crate: run it at the top of the repository, alone on the machine; it wants `rt`.
+"""What the gate costs, crate by crate: run it at the top of the repository, best alone on the machine; it wants `rt`.
 
 It runs `rt ci` (with the words that it is given, as `--anew` or names of crates) and prints what that prints. Four times a second it reads from
 /proc how much processor time each process of the prover has had, and at the end it prints for each crate the processor minutes of its proofs, of the
@@ -12,8 +12,8 @@ TICKS = os.sysconf("SC_CLK_TCK")
 KINDS = ("proofs", "tests", "edits", "other")
 
 
-def processes():
-    """Each process of the prover: what tells it from others, its crate, its kind, and its seconds so far."""
+def processes(session):
+    """Each process of the prover in this session: what tells it from others, its crate, its kind, and its seconds so far."""
     for name in os.listdir("/proc"):
         if not name.isdigit():
             continue
@@ -22,9 +22,11 @@ def processes():
                 words = file.read().decode(errors="replace").split("\0")
             if not os.path.basename(words[0]).startswith("rattle"):
                 continue
-            folder = os.readlink(f"/proc/{name}/cwd")
             with open(f"/proc/{name}/stat") as file:
                 fields = file.read().rpartition(")")[2].split()
+            if int(fields[3]) != session:
+                continue
+            folder = os.readlink(f"/proc/{name}/cwd")
         except OSError:
             continue
         crate = words[words.index("--crate-name") + 1] if "--crate-name" in words else "(none)"
@@ -35,14 +37,12 @@ def processes():
 
 
 def main():
-    before = {key for key, _, _, _ in processes()}
     seen = {}
     start = time.monotonic()
-    gate = subprocess.Popen(["rt", "ci", *sys.argv[1:]], stdin=subprocess.DEVNULL)
+    gate = subprocess.Popen(["rt", "ci", *sys.argv[1:]], stdin=subprocess.DEVNULL, start_new_session=True)
     while gate.poll() is None:
-        for key, crate, kind, seconds in processes():
-            if key not in before:
-                seen[key] = (crate, kind, seconds)
+        for key, crate, kind, seconds in processes(gate.pid):
+            seen[key] = (crate, kind, seconds)
         time.sleep(0.25)
     wall = time.monotonic() - start
     rows = collections.defaultdict(lambda: dict.fromkeys(KINDS, 0.0))
