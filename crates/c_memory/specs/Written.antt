@@ -52,7 +52,7 @@ Follows n out other = OutcomesMatch n out other
 
 -- The written unit does what its source does. For every function of the source, all arguments of its parameters' types, every memory and every
 -- bound on turns for which the source is defined, the call of that function in the written unit, with the matching arguments, has a
--- matching outcome. The blocks of the memory and of the tables are compared. `rows` and `others` are the calls of the rows of both sides.
+-- matching outcome. The blocks of the memory and of the tables are compared. `rows` and `other_rows` are the calls of the rows of both sides.
 abbrev pub DoesTheSame : Calls → Calls → (CType → CType) → List External → List External → Type 0
 DoesTheSame rows other_rows written unit other =
     (name : List ℕ) (f : Definition) (args others : List Value) (memory : List Block) (turns : ℕ) →
