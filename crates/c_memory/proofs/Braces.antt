@@ -1,12 +1,12 @@
 -- Braces round bodies change nothing.
-use Rattle.std.proofs.Common.{◌≡◌, ℕ, zero, suc, ◌-◌, Bool, true, false, not, ◌&&◌, ◌||◌, List, [], ◌∷◌, map, drop, length, Some, None, refl, ap, ◌∙◌, arith}
+use Rattle.std.proofs.Common.{◌≡◌, ℕ, zero, suc, ◌-◌, Bool, true, false, not, ◌&&◌, ◌||◌, List, [], ◌∷◌, map, drop, length, refl, ap, ◌∙◌, arith}
 use Rattle.std.proofs.lemmas.List.{length-drop}
 use mathlib.Core.Path.{fun_ext}
 use Rattle.c_tree.specs.Tree.{Statement, Optional, Declare, Run, Block, If, While, DoWhile, For, Break, Continue, Return, Empty, Absent, Present, NoStatements, Then}
 use Rattle.address_taken.specs.Addressed.{takes, takes_optional, takes_maybe, takes_statement, declares, declares_first}
 use Rattle.c_memory.specs.declared.blocks.Block.{Block as MemoryBlock}
 use Rattle.c_memory.specs.Memory.{ended, ended_from}
-use Rattle.c_memory.specs.MeaningState.{Binding, State, Out, Done, Turns, Undefined, Does, ◌>>=◌, ◌>>◌, then_do, leave, scoped}
+use Rattle.c_memory.specs.MeaningState.{Binding, State, Out, Done, Turns, Undefined, ◌>>=◌, ◌>>◌, then_do, leave, scoped}
 use Rattle.c_memory.specs.Meaning.{Calls, Flow, Next, Broke, Continued, Returned, on_next, act, optional_act, optional_body, sequence, no_more, Later, expression, condition, choose, loops, loops_after, with_step, optional_condition, optional_value}
 use Rattle.c_memory.specs.Braces.{braced, optional_braced, with_braces}
 

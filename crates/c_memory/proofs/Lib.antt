@@ -6,3 +6,4 @@ pub mod Continued
 pub mod Braces
 pub mod Memories
 pub mod Matched
+pub mod Outermost

@@ -6,7 +6,6 @@ use Rattle.lane_core.specs.declared.number.IntType.{IntType}
 use Rattle.lane_core.specs.declared.number.IntType.TheVariants as int
 use Rattle.lane_core.specs.declared.number.Num.{Num}
 use Rattle.lane_core.specs.IntRange.{InRange}
-use Rattle.lane_core.specs.Register.{IsRegister}
 use Rattle.scalar_core.specs.Numbers.{num_of}
 use Rattle.scalar_core.specs.NumberLaws.{num_same, num_of_in_range}
 use Rattle.c_tree.specs.declared.types.CType.{CType}

@@ -1,5 +1,6 @@
 -- The functions of a unit: those of a name, and what calls of them do.
-use Rattle.std.specs.Prelude.{ℕ, List, [], ◌∷◌, map, find, Option}
+use Rattle.std.specs.Prelude.{ℕ, Bool, not, List, [], ◌∷◌, map, find, Option}
+use Rattle.std.specs.List.{list_all}
 use Rattle.std.specs.Str.{bytes_eq}
 use Rattle.c_tree.specs.declared.types.CType.{CType}
 use Rattle.c_tree.specs.Tree.{Object, Definition, External}
@@ -18,3 +19,7 @@ function_named name unit = find (λ f. bytes_eq name f.name) (functions unit)
 abbrev pub calls_of : List Binding → Calls → List Definition → Calls
 calls_of tables c [] = c
 calls_of tables c (f ∷ rest) = calls_of tables (with_function tables f c) rest
+
+-- none of these functions has the name
+abbrev pub none_named : List ℕ → List Definition → Bool
+none_named name all = list_all (λ f. not (bytes_eq name f.name)) all

@@ -29,12 +29,12 @@ pub record TablesMatch (written : CType → CType) (d e : Object) : Type 0 where
 
 -- The second unit has the functions and tables of the first in their order. What it has beside them are functions whose names begin with `mg_`.
 pub data UnitsMatch (written : CType → CType) : List External → List External → Type 0 where
-  no_items : UnitsMatch written [] []
-  and_function : (f g : Definition) (unit other : List External) → FunctionsMatch written f g → UnitsMatch written unit other →
+  NoItems : UnitsMatch written [] []
+  AndFunction : (f g : Definition) (unit other : List External) → FunctionsMatch written f g → UnitsMatch written unit other →
       UnitsMatch written (Function f ∷ unit) (Function g ∷ other)
-  and_table : (d e : Object) (is_static : Bool) (unit other : List External) → TablesMatch written d e → UnitsMatch written unit other →
+  AndTable : (d e : Object) (is_static : Bool) (unit other : List External) → TablesMatch written d e → UnitsMatch written unit other →
       UnitsMatch written (Table d is_static ∷ unit) (Table e is_static ∷ other)
-  and_helper : (g : Definition) (unit other : List External) → IsTrue (is_helper g.name) → UnitsMatch written unit other →
+  AndHelper : (g : Definition) (unit other : List External) → IsTrue (is_helper g.name) → UnitsMatch written unit other →
       UnitsMatch written unit (Function g ∷ other)
 
 -- ---- what functions do
@@ -52,7 +52,7 @@ Follows n out other = OutcomesMatch n out other
 
 -- The written unit does what its source does. For every function of the source, all arguments of its parameters' types, every memory and every
 -- bound on turns for which the source is defined, the call of that function in the written unit, with the matching arguments, has a
--- matching outcome. The blocks of the memory and of the tables are compared. `rows` and `others` are the calls of the rows of both sides.
+-- matching outcome. The blocks of the memory and of the tables are compared. `rows` and `other_rows` are the calls of the rows of both sides.
 abbrev pub DoesTheSame : Calls → Calls → (CType → CType) → List External → List External → Type 0
 DoesTheSame rows other_rows written unit other =
     (name : List ℕ) (f : Definition) (args others : List Value) (memory : List Block) (turns : ℕ) →

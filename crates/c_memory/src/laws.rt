@@ -1,15 +1,18 @@
 //! What holds of the meaning, whatever is run.
 
-ghost use Rattle.std.specs.Prelude.{◌≡◌, ℕ, List, Some, pos};
+ghost use Rattle.std.specs.Prelude.{◌≡◌, ◌++◌, ◌∷◌, ℕ, List, Some, pos, true};
+ghost use Rattle.std.specs.Str.{bytes_eq};
 ghost use Rattle.lane_core.specs.IntRange.{InRange};
 ghost use Rattle.lane_core.specs.Register.{IsRegister};
 ghost use Rattle.lane_core.specs.declared.number.IntType.TheVariants.{Long};
 ghost use Rattle.c_tree.specs.declared.types.CType.{CType};
-ghost use Rattle.c_tree.specs.Tree.{Statement};
+ghost use Rattle.c_tree.specs.Tree.{Statement, Definition};
 ghost use Rattle.address_taken.specs.Addressed.{takes_statement};
 ghost use Rattle.c_memory.specs.Braces.{with_braces};
 ghost use Rattle.c_memory.specs.Matching.{written_type};
-ghost use Rattle.c_memory.specs.Meaning.{act, Calls, Later};
+ghost use Rattle.c_memory.specs.Functions.{calls_of, none_named};
+ghost use Rattle.c_memory.specs.Meaning.{act, call_of, outermost, Calls, Later};
+ghost use Rattle.c_memory.specs.MeaningState.{Binding};
 ghost use Rattle.c_memory.specs.Memory.{bytes_read};
 ghost use Rattle.c_memory.specs.Values.{IsMemory, AreArguments, PointsInto};
 ghost use Rattle.c_memory.specs.Written.{MatchingArguments};
@@ -36,4 +39,10 @@ pub fn matching_arguments_are_determined()
     ensures exist { (memory : List Block) (types : List CType) (args : List SeenValue) → AreArguments memory types args → (others : List SeenValue) × MatchingArguments written_type memory types args others }
     ensures same { (memory : List Block) (types : List CType) (args : List SeenValue) (others : List SeenValue) (more : List SeenValue) →
         MatchingArguments written_type memory types args others → MatchingArguments written_type memory types args more → others ≡ more }
+{}
+
+/// A call from outside is that of the first function of the name, which may call those before it and the rows.
+pub fn the_first_function_is_called()
+    ensures { (tables : List Binding) (calls : Calls) (before : List Definition) (after : List Definition) (f : Definition) (name : List ℕ) (args : List SeenValue) →
+        none_named name before ≡ true → bytes_eq name f.name ≡ true → outermost tables calls (before ++ (f ∷ after)) name args ≡ call_of tables f (calls_of tables calls before) args }
 {}

@@ -4,7 +4,7 @@ use crate::reading::{put, read};
 use c_meaning::run;
 use c_memory::{
     Block, BlockList, ByteList, Memory, Outcome, Pointer, Value, braces_change_nothing,
-    matching_arguments_are_determined, memories_are_of_bytes,
+    matching_arguments_are_determined, memories_are_of_bytes, the_first_function_is_called,
 };
 use c_text::Dialect;
 use intel_table::X86Rows;
@@ -235,6 +235,7 @@ fn units_answer_by_the_standard(rt: HostRuntime) -> Result<(), Fail> {
     braces_change_nothing();
     matching_arguments_are_determined();
     memories_are_of_bytes();
+    the_first_function_is_called();
     agree(&rt, rt.alloc(), EXPRESSIONS)?;
     agree(&rt, rt.alloc(), STATEMENTS)
 }

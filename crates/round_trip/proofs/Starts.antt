@@ -20,7 +20,7 @@ use Rattle.c_print.specs.Declarations.{has_const, is_shared}
 use Rattle.round_trip.specs.Headers.{begins_text}
 use Rattle.round_trip.specs.Words.{Bit, bit_text, word_of, words_of, Marked, marked, marked_word, marked_words}
 use Rattle.round_trip.proofs.Bits.{integer_bits, pointee_bits, base_bits, const_bits}
-use Rattle.round_trip.proofs.UnitBits.{specifiers_bits, shared_bits, declaration_bits_with, static_bits, inline_bits, item_bits, items_bits}
+use Rattle.round_trip.proofs.UnitBits.{specifiers_bits, shared_bits, static_bits, inline_bits, item_bits, items_bits}
 
 -- the first word, if there is one, isn't `#`
 abbrev no_hash : List (TokenKind × List ℕ) → Bool

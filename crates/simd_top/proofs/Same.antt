@@ -19,7 +19,7 @@ use Rattle.c_memory.specs.MeaningState.{State, Does}
 use Rattle.c_memory.specs.Meaning.{Calls, call_of, with_function, outermost, functions, table_blocks, table_objects, outcome}
 use Rattle.c_memory.specs.Values.{AreArguments}
 use Rattle.c_memory.specs.Functions.{types_of}
-use Rattle.c_memory.specs.Written.{FunctionsMatch, UnitsMatch, no_items, and_function, Follows, DoesTheSame}
+use Rattle.c_memory.specs.Written.{FunctionsMatch, UnitsMatch, NoItems, AndFunction, Follows, DoesTheSame}
 use Rattle.simd_top.specs.Migrated.{parameters_of, Migrated}
 use Rattle.simd_top.specs.Rows.{neon_name, moved_row}
 use Rattle.simd_top.specs.Ran.{rows}
@@ -141,8 +141,8 @@ SameFunctions (Function f ∷ fs) (Function g ∷ gs) = FunctionsMatch written_t
 SameFunctions _ _ = ⊥
 
 units_match : (us vs : List External) → SameFunctions us vs → UnitsMatch written_type us vs
-units_match [] [] h = no_items
-units_match (Function f ∷ us) (Function g ∷ vs) h = and_function f g us vs h.0 (units_match us vs h.2)
+units_match [] [] h = NoItems
+units_match (Function f ∷ us) (Function g ∷ vs) h = AndFunction f g us vs h.0 (units_match us vs h.2)
 units_match us vs h = absurd h
 
 parameters_same : (us vs : List External) → SameFunctions us vs → parameters_of vs ≡ parameters_of us
