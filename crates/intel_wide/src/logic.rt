@@ -35,8 +35,8 @@ macro_rules! group {
     ($rule:ident $($argument:ident)*) => {
         $rule! {
             Logic $($argument)*;
-            "_mm256_and_si256", AndSi256, Form::Two(Ymm, Two::Lanes(Lane2::And, Qword));
-            "_mm256_andnot_si256", AndnotSi256, Form::Two(Ymm, Two::Lanes(Lane2::AndNot, Qword));
+            "_mm256_and_si256", AndSi256, Form::Two(Ymm, Two::Lanes(Lane2::And, Byte));
+            "_mm256_andnot_si256", AndnotSi256, Form::Two(Ymm, Two::Lanes(Lane2::AndNot, Byte));
             "_mm256_cmpeq_epi16", CmpeqEpi16, Form::Two(Ymm, Two::Lanes(Lane2::Equal, Word));
             "_mm256_cmpeq_epi32", CmpeqEpi32, Form::Two(Ymm, Two::Lanes(Lane2::Equal, Dword));
             "_mm256_cmpeq_epi64", CmpeqEpi64, Form::Two(Ymm, Two::Lanes(Lane2::Equal, Qword));
@@ -45,8 +45,8 @@ macro_rules! group {
             "_mm256_cmpgt_epi32", CmpgtEpi32, Form::Two(Ymm, Two::Lanes(Lane2::Greater, Dword));
             "_mm256_cmpgt_epi64", CmpgtEpi64, Form::Two(Ymm, Two::Lanes(Lane2::Greater, Qword));
             "_mm256_cmpgt_epi8", CmpgtEpi8, Form::Two(Ymm, Two::Lanes(Lane2::Greater, Byte));
-            "_mm256_or_si256", OrSi256, Form::Two(Ymm, Two::Lanes(Lane2::Or, Qword));
-            "_mm256_xor_si256", XorSi256, Form::Two(Ymm, Two::Lanes(Lane2::Xor, Qword));
+            "_mm256_or_si256", OrSi256, Form::Two(Ymm, Two::Lanes(Lane2::Or, Byte));
+            "_mm256_xor_si256", XorSi256, Form::Two(Ymm, Two::Lanes(Lane2::Xor, Byte));
         }
     };
 }
