@@ -53,6 +53,7 @@ macro_rules! group {
 
 static ROWS: &[(&str, WideOp)] = group!(names_and_rows WideOp);
 
+/// How many rows the group has.
 #[tactic(auto, unfolding(crate::specs::LogicRows::logic_rows))]
 pub fn count() -> usize
     ensures value { result ≡ length logic_rows }
@@ -61,6 +62,7 @@ pub fn count() -> usize
     ROWS.len()
 }
 
+/// Row `k` of the group, counted from 0.
 #[tactic(auto, unfolding(crate::specs::LogicRows::logic_rows))]
 pub fn at(k: usize) -> WideOp
     requires { k < length logic_rows }
@@ -69,18 +71,21 @@ pub fn at(k: usize) -> WideOp
     row_at(ROWS, k)
 }
 
+/// The row of that name, or None where the group has none.
 pub fn find(name: &[u8]) -> Option<WideOp>
     ensures { result ≡ first_named name_of logic_rows name.now }
 {
     row_named(ROWS, name)
 }
 
+/// The row's name.
 pub fn name(op: Logic) -> &'static str
     ensures { result.now ≡ (logic_row op).name }
 {
     group!(name_of_row op)
 }
 
+/// The row's form.
 pub fn form(op: Logic) -> Form
     ensures { result ≡ (logic_row op).form }
 {
