@@ -4,18 +4,15 @@
 It reads the rows and their forms from crates/intel_*/specs/*Rows.antt and writes a C program that calls each. The first row of a formula has three
 calls or more, every other row one. Registers have lanes at 0, 1, 7F.., 80.., FF.. of every width, and counts lie on both sides of the width.
 
-With no word it prints a line a call: the row's name, the immediate, the arguments, `=` and the value. A register is its bytes from byte 0 on, an
-integer `#` and its value modulo 2^64, a pointer or an immediate `-`. Of a reading row the last argument is the register of the bytes read; of a
-storing row the value is what the call leaves in memory that was zeros.
-
-With `run PROGRAM` it runs `PROGRAM run x86` on a unit for each call, compares, and prints rows, calls and differences; with `cases FOLDER` it writes
-each unit, its words and its output as files NAME, NAME.args and NAME.stdout.
+With no word it prints a table for the tests in crates/cases: the text of a function that calls the row, and behind it, on lines that begin with a
+space, the items of a run and what it prints, `$` for a line end but the last. With `run PROGRAM` it runs `PROGRAM run x86` on each, compares, and
+prints rows, calls and differences; with `cases FOLDER` it writes each unit, its words and its output as files NAME, NAME.args and NAME.stdout.
 """
 import glob, os, random, re, subprocess, sys, tempfile
 
 LANES = {"Byte": 1, "Word": 2, "Dword": 4, "Qword": 8}
 BYTES = {"Xmm": 16, "Ymm": 32}
-BASE = 512
+BASE = 64
 MEMORY = bytes((i * 7 + i // 256) % 256 for i in range(2 * BASE))
 TYPES = {1: "char", 2: "short", 4: "int", 8: "long long"}
 
@@ -67,7 +64,7 @@ class Call:
     """One call: its C arguments, its arguments as a table has them, and its immediate."""
 
     def __init__(self, imm=0):
-        self.imm, self.code, self.args = imm, [], []
+        self.imm, self.code = imm, []
         self.blocks, self.params, self.passed, self.items = [], [], [], []
 
     def parameter(self, kind, item):
@@ -80,31 +77,24 @@ class Call:
         kind = "__m128i" if len(data) == 16 else "__m256i"
         load = "_mm_loadu_si128" if len(data) == 16 else "_mm256_loadu_si256"
         self.code.append("%s((%s const *)(unsigned char[]){%s})" % (load, kind, ",".join(map(str, data))))
-        self.args.append(data.hex())
         self.parameter(kind, "vec:" + data.hex())
 
     def integer(self, value, width):
         self.code.append("(%s)0x%xULL" % (TYPES[width], value % 2 ** (8 * width)))
         signed = value % 2 ** (8 * width)
         signed -= 2 ** (8 * width) if signed >= 2 ** (8 * width - 1) else 0
-        self.args.append("#%x" % (signed % 2 ** 64))
         self.parameter(TYPES[width], "int:%d" % signed)
 
     def constant(self):
         self.code.append(str(self.imm))
-        self.args.append("-")
         self.passed.append(str(self.imm))
 
     def pointer(self, kind):
         """To the middle of bytes that are read, or to zeros."""
         data = MEMORY if "const" in kind else bytes(64)
         self.code.append("(%s)%s" % (kind, "(memory + %d)" % BASE if "const" in kind else "area"))
-        self.args.append("-")
         self.blocks.append("block:64:rw:" + data.hex())
         self.parameter(kind, "at:0:%d" % (BASE if "const" in kind else 0))
-
-    def reads(self, data):
-        self.args.append(bytes(data).hex())
 
 
 def gathered(call, rng, form, masked):
@@ -115,21 +105,14 @@ def gathered(call, rng, form, masked):
     lanes = size // max(element, index)
     result, indices = max(16, lanes * element), max(16, lanes * index)
     call.imm = rng.choice([1, 2, 4, 8])
-    places = [rng.randrange(-60, 60) for _ in range(indices // index)]
-    mask = edge(rng, result, element)
-    read = bytearray(result)
-    for k in range(lanes):
-        if not masked or mask[k * element + element - 1] >= 128:
-            start = BASE + places[k] * call.imm
-            read[k * element:(k + 1) * element] = MEMORY[start:start + element]
+    places = [rng.randrange(-7, 7) for _ in range(indices // index)]
     if masked:
         call.register(edge(rng, result, element))
     call.pointer("%s const *" % TYPES[element])
     call.register(b"".join((p % 2 ** (8 * index)).to_bytes(index, "little") for p in places))
     if masked:
-        call.register(mask)
+        call.register(edge(rng, result, element))
     call.constant()
-    call.reads(read)
     return result
 
 
@@ -140,21 +123,17 @@ def memory_call(call, rng, form):
         return gathered(call, rng, form, kind == "MaskGather")
     size = BYTES[form[1]] if len(form) > 1 else 16
     vector = "__m%di" % (8 * size)
-    here = MEMORY[BASE:BASE + size]
     if kind in ("Load", "LoadLow"):
         call.pointer(vector + " const *")
-        call.reads(here if kind == "Load" else here[:8] + bytes(8))
         return size
     if kind in ("Store", "StoreLow"):
         call.pointer(vector + " *")
         call.register(edge(rng, size, 8))
         return -size
     width = LANES[form[2]]
-    mask = edge(rng, size, width)
     call.pointer(TYPES[width] + (" const *" if kind == "MaskLoad" else " *"))
-    call.register(mask)
+    call.register(edge(rng, size, width))
     if kind == "MaskLoad":
-        call.reads(b"".join(here[k:k + width] if mask[k + width - 1] >= 128 else bytes(width) for k in range(0, size, width)))
         return size
     call.register(edge(rng, size, width))
     return -size
@@ -318,7 +297,7 @@ def compare(program_path, calls, values):
         answer = subprocess.run([program_path] + arguments, input=source, capture_output=True, text=True)
         if answer.stdout != told:
             differences += 1
-            print(name, call.imm, *call.args, "=", value, "but", (answer.stdout or answer.stderr).strip())
+            print(source.splitlines()[2], *call.items, "->", told, "but", answer.stdout or answer.stderr)
     return differences
 
 
@@ -331,14 +310,18 @@ def main():
     if sys.argv[1:2] == ["run"]:
         print("%s, differences %d" % (told, compare(sys.argv[2], calls, values)))
         return
+    last = ""
     for number, ((name, call, size), value) in enumerate(zip(calls, values)):
+        source, arguments, output = unit(name, call, size, value)
         if sys.argv[1:2] == ["cases"]:
-            source, arguments, output = unit(name, call, size, value)
             path = os.path.join(sys.argv[2], "%s_%d" % (name, number))
             for ending, text in (("", source), (".args", "\n".join(arguments) + "\n"), (".stdout", output)):
                 open(path + ending, "w").write(text)
-        else:
-            print(name, call.imm, *call.args, "=", value)
+            continue
+        if source != last:
+            print(source.splitlines()[2])
+        last = source
+        print(" %s -> %s" % (" ".join(arguments[4:]), output.strip().replace("\n", "$")))
     print(told, file=sys.stderr)
 
 
