@@ -1,16 +1,19 @@
 #!/usr/bin/env python3
-"""Vectors of all Intel rows by this processor: run it at the top of the repository; it wants `gcc` and a processor with AVX2.
+"""All Intel rows by this processor: run it at the top of the repository; it wants `gcc` and a processor with AVX2.
 
-It reads the rows and their forms from crates/intel_*/specs/*Rows.antt, writes a C program that calls each, and prints a line a call: the row's name,
-the immediate, the arguments, `=` and the value. A register is its bytes from byte 0 on, an integer `#` and its value modulo 2^64, a pointer or an
-immediate `-`. Of a reading row the last argument is the register of the bytes read; of a storing row the value is what the call leaves in memory
-that was zeros. The first row of a formula has three calls or more, every other row one. Registers have lanes at 0, 1, 7F.., 80.., FF.. of every
-width, and counts lie on both sides of the width.
+It reads the rows and their forms from crates/intel_*/specs/*Rows.antt and writes a C program that calls each. The first row of a formula has three
+calls or more, every other row one. Registers have lanes at 0, 1, 7F.., 80.., FF.. of every width, and counts lie on both sides of the width.
+
+With no word it prints a table for the tests in crates/cases: the text of a function that calls the row, and behind it, on lines that begin with a
+space, the items of a run and what it prints, `$` for a line end but the last. With `run PROGRAM` it runs `PROGRAM run x86` on each, compares, and
+prints rows, calls and differences; with `cases FOLDER` it writes each unit, its words and its output as files NAME, NAME.args and NAME.stdout.
 """
 import glob, os, random, re, subprocess, sys, tempfile
 
 LANES = {"Byte": 1, "Word": 2, "Dword": 4, "Qword": 8}
 BYTES = {"Xmm": 16, "Ymm": 32}
+BASE = 64
+MEMORY = bytes((i * 7 + i // 256) % 256 for i in range(2 * BASE))
 TYPES = {1: "char", 2: "short", 4: "int", 8: "long long"}
 
 
@@ -61,55 +64,55 @@ class Call:
     """One call: its C arguments, its arguments as a table has them, and its immediate."""
 
     def __init__(self, imm=0):
-        self.imm, self.code, self.args, self.before = imm, [], [], ""
+        self.imm, self.code = imm, []
+        self.blocks, self.params, self.passed, self.items = [], [], [], []
+
+    def parameter(self, kind, item):
+        name = "p%d" % len(self.params)
+        self.params.append("%s%s%s" % (kind, "" if kind.endswith("*") else " ", name))
+        self.passed.append(name)
+        self.items.append(item)
 
     def register(self, data):
         kind = "__m128i" if len(data) == 16 else "__m256i"
         load = "_mm_loadu_si128" if len(data) == 16 else "_mm256_loadu_si256"
         self.code.append("%s((%s const *)(unsigned char[]){%s})" % (load, kind, ",".join(map(str, data))))
-        self.args.append(data.hex())
+        self.parameter(kind, "vec:" + data.hex())
 
     def integer(self, value, width):
         self.code.append("(%s)0x%xULL" % (TYPES[width], value % 2 ** (8 * width)))
         signed = value % 2 ** (8 * width)
         signed -= 2 ** (8 * width) if signed >= 2 ** (8 * width - 1) else 0
-        self.args.append("#%x" % (signed % 2 ** 64))
+        self.parameter(TYPES[width], "int:%d" % signed)
 
     def constant(self):
         self.code.append(str(self.imm))
-        self.args.append("-")
+        self.passed.append(str(self.imm))
 
-    def pointer(self, kind, offset=0):
-        self.code.append("(%s)(memory + %d)" % (kind, offset))
-        self.args.append("-")
-
-    def reads(self, data):
-        self.args.append(bytes(data).hex())
+    def pointer(self, kind):
+        """To the middle of bytes that are read, or to zeros."""
+        data = MEMORY if "const" in kind else bytes(64)
+        self.code.append("(%s)%s" % (kind, "(memory + %d)" % BASE if "const" in kind else "area"))
+        self.blocks.append("block:64:rw:" + data.hex())
+        self.parameter(kind, "at:0:%d" % (BASE if "const" in kind else 0))
 
 
 def gathered(call, rng, form, masked):
-    """The arguments of a gather, over a memory of 4,096 bytes whose byte i is i * 7 + i / 256 modulo 256."""
+    """The arguments of a gather."""
     size, indexing = BYTES[form[1]], form[2]
     element = 4 if indexing.startswith("Dwords") else 8
     index = 4 if indexing.endswith("Dwords") else 8
     lanes = size // max(element, index)
     result, indices = max(16, lanes * element), max(16, lanes * index)
     call.imm = rng.choice([1, 2, 4, 8])
-    places = [rng.randrange(-200, 200) for _ in range(indices // index)]
-    mask = edge(rng, result, element)
-    read = bytearray(result)
-    for k in range(lanes):
-        if not masked or mask[k * element + element - 1] >= 128:
-            start = 2048 + places[k] * call.imm
-            read[k * element:(k + 1) * element] = bytes((i * 7 + i // 256) % 256 for i in range(start, start + element))
+    places = [rng.randrange(-7, 7) for _ in range(indices // index)]
     if masked:
         call.register(edge(rng, result, element))
-    call.pointer("%s const *" % TYPES[element], 2048)
+    call.pointer("%s const *" % TYPES[element])
     call.register(b"".join((p % 2 ** (8 * index)).to_bytes(index, "little") for p in places))
     if masked:
-        call.register(mask)
+        call.register(edge(rng, result, element))
     call.constant()
-    call.reads(read)
     return result
 
 
@@ -120,21 +123,17 @@ def memory_call(call, rng, form):
         return gathered(call, rng, form, kind == "MaskGather")
     size = BYTES[form[1]] if len(form) > 1 else 16
     vector = "__m%di" % (8 * size)
-    here = bytes((i * 7 + i // 256) % 256 for i in range(2048, 2048 + size))
     if kind in ("Load", "LoadLow"):
-        call.pointer(vector + " const *", 2048)
-        call.reads(here if kind == "Load" else here[:8] + bytes(8))
+        call.pointer(vector + " const *")
         return size
     if kind in ("Store", "StoreLow"):
-        call.pointer(vector + " *", 3840)
+        call.pointer(vector + " *")
         call.register(edge(rng, size, 8))
         return -size
     width = LANES[form[2]]
-    mask = edge(rng, size, width)
-    call.pointer(TYPES[width] + (" const *" if kind == "MaskLoad" else " *"), 2048 if kind == "MaskLoad" else 3840)
-    call.register(mask)
+    call.pointer(TYPES[width] + (" const *" if kind == "MaskLoad" else " *"))
+    call.register(edge(rng, size, width))
     if kind == "MaskLoad":
-        call.reads(b"".join(here[k:k + width] if mask[k + width - 1] >= 128 else bytes(width) for k in range(0, size, width)))
         return size
     call.register(edge(rng, size, width))
     return -size
@@ -239,13 +238,14 @@ def make(form, turn, rng):
 
 def program(calls):
     """The C program that prints the value of each call on a line."""
-    out = ["#include <immintrin.h>", "#include <stdio.h>", "#include <string.h>", "static _Alignas(64) unsigned char memory[4096];",
+    out = ["#include <immintrin.h>", "#include <stdio.h>", "#include <string.h>", "static _Alignas(64) unsigned char memory[%d], area[64];" % (2 * BASE),
+           "",
            "static void show(void const *p, int n) { for (int i = 0; i < n; i++) printf(\"%02x\", ((unsigned char const *)p)[i]); puts(\"\"); }",
-           "static void fill(void) { for (int i = 0; i < 4096; i++) memory[i] = (unsigned char)(i * 7 + i / 256); memset(memory + 3840, 0, 64); }"]
+           "static void fill(void) { for (int i = 0; i < %d; i++) memory[i] = (unsigned char)(i * 7 + i / 256); memset(area, 0, 64); }" % (2 * BASE)]
     for k, (name, call, size) in enumerate(calls):
         body = "%s(%s)" % (name, ", ".join(call.code))
         if size < 0:
-            text = "%s; show(memory + 3840, %d);" % (body, -size)
+            text = "%s; show(area, %d);" % (body, -size)
         elif size == 0:
             text = "printf(\"#%%llx\\n\", (unsigned long long)(long long)%s);" % body
         else:
@@ -255,26 +255,74 @@ def program(calls):
     return "\n".join(out)
 
 
-def main():
-    top = os.path.dirname(os.path.dirname(os.path.abspath(__file__)))
+def unit(name, call, size, value):
+    """A unit whose function f makes the call, the words of a run, and what the run prints."""
+    answer = "void" if size < 0 else "__m%di" % (8 * size) if size else "long long" if name.endswith("64") else "int"
+    body = "%s%s(%s);" % ("" if size < 0 else "return ", name, ", ".join(call.passed))
+    source = "#include <immintrin.h>\n\n%s f(%s) { %s }\n" % (answer, ", ".join(call.params) or "void", body)
+    if size:
+        told = "value none" if size < 0 else "value vec " + value
+    else:
+        number = int(value[1:], 16)
+        told = "value int %d" % (number - 2 ** 64 if number >= 2 ** 63 else number)
+    for block in call.blocks:
+        told += "\nblock 0 " + (value + "00" * (64 + size) if size < 0 else block.split(":")[3])
+    return source, ["run", "x86", "f", "0"] + call.blocks + call.items, told + "\n"
+
+
+def all_calls(rows):
     rng, seen, calls = random.Random(1), set(), []
-    for name, form in sorted(all_rows(top).items()):
-        if name == "_mm_cmpgt_epi64":
-            continue
+    for name, form in sorted(rows.items()):
         formula = " ".join(word for word in flat(form) if word not in BYTES)
         several = {"OneImm": 6, "TwoImm": 7, "Counted": 6, "Scalar": 4}.get(form[0], 3)
         for turn in range(several if formula not in seen else 1):
             call, size = make(form, turn, rng)
             calls.append((name, call, size))
         seen.add(formula)
+    return calls, len(seen)
+
+
+def by_processor(calls):
     with tempfile.TemporaryDirectory() as folder:
         path = os.path.join(folder, "rows.c")
         open(path, "w").write(program(calls))
         subprocess.run(["gcc", "-O0", "-mavx2", "-w", "-o", path[:-2], path], check=True)
-        values = subprocess.run([path[:-2]], check=True, capture_output=True, text=True).stdout.split()
+        return subprocess.run([path[:-2]], check=True, capture_output=True, text=True).stdout.split()
+
+
+def compare(program_path, calls, values):
+    differences = 0
     for (name, call, size), value in zip(calls, values):
-        print(name, call.imm, *call.args, "=", value)
-    print("rows %d, formulas %d, calls %d" % (len(all_rows(top)) - 1, len(seen), len(values)), file=sys.stderr)
+        source, arguments, told = unit(name, call, size, value)
+        answer = subprocess.run([program_path] + arguments, input=source, capture_output=True, text=True)
+        if answer.stdout != told:
+            differences += 1
+            print(source.splitlines()[2], *call.items, "->", told, "but", answer.stdout or answer.stderr)
+    return differences
+
+
+def main():
+    top = os.path.dirname(os.path.dirname(os.path.abspath(__file__)))
+    rows = {name: form for name, form in all_rows(top).items() if name != "_mm_cmpgt_epi64"}
+    calls, formulas = all_calls(rows)
+    values = by_processor(calls)
+    told = "rows %d, formulas %d, calls %d" % (len(rows), formulas, len(values))
+    if sys.argv[1:2] == ["run"]:
+        print("%s, differences %d" % (told, compare(sys.argv[2], calls, values)))
+        return
+    last = ""
+    for number, ((name, call, size), value) in enumerate(zip(calls, values)):
+        source, arguments, output = unit(name, call, size, value)
+        if sys.argv[1:2] == ["cases"]:
+            path = os.path.join(sys.argv[2], "%s_%d" % (name, number))
+            for ending, text in (("", source), (".args", "\n".join(arguments) + "\n"), (".stdout", output)):
+                open(path + ending, "w").write(text)
+            continue
+        if source != last:
+            print(source.splitlines()[2])
+        last = source
+        print(" %s -> %s" % (" ".join(arguments[4:]), output.strip().replace("\n", "$")))
+    print(told, file=sys.stderr)
 
 
 if __name__ == "__main__":

@@ -39,7 +39,10 @@ shift_of Left w x count = if nat_lt count (8 * w) then x * 2 ^ count else 0
 shift_of Right w x count = if nat_lt count (8 * w) then x / 2 ^ count else 0
 shift_of Arithmetic w x count = wrapped w (int_shr (signed w x) (if nat_lt count (8 * w) then count else 8 * w - 1))
 
--- lane j of the result, of lanes j of a and b
+-- lane j of the result, of lanes j of a and b: "Saturate8(a[i+7:i] + b[i+7:i])", "SaturateU8(..)"; "(a[i+7:i] + b[i+7:i] + 1) >> 1"; of "tmp[31:0] :=
+-- SignExtend32(a[i+15:i]) * SignExtend32(b[i+15:i])" the low half, "tmp[15:0]", is that of the unsigned product, the high half is "tmp[31:16]", and
+-- MultiplyRound is "tmp := ((.. * ..) >> 14) + 1; tmp[16:1]"; "MIN(a[i+15:i], b[i+15:i])"; "(NOT a) AND b"; "( a[i+7:i] > b[i+7:i] ) ? 0xFF : 0"; "IF (b[i+7:i]
+-- < 0): NEG(a[i+7:i]) ELSE IF (b[i+7:i] == 0): 0 ELSE a[i+7:i]"
 abbrev pub lane2_of : Lane2 → ℕ → ℕ → ℕ → ℕ
 lane2_of op.Add w x y = x + y
 lane2_of op.Sub w x y = wrapped w (pos x -ℤ pos y)

@@ -14,8 +14,8 @@ use Rattle.intel_sse2.specs.declared.logic.Logic.{Logic}
 use Rattle.intel_sse2.specs.declared.logic.Logic.TheVariants as v
 
 abbrev pub logic_row : Logic → Row
-logic_row v.AndSi128 = row (codes "_mm_and_si128") (form.Two Xmm (two.Lanes lane2.And Qword))
-logic_row v.AndnotSi128 = row (codes "_mm_andnot_si128") (form.Two Xmm (two.Lanes lane2.AndNot Qword))
+logic_row v.AndSi128 = row (codes "_mm_and_si128") (form.Two Xmm (two.Lanes lane2.And Byte))
+logic_row v.AndnotSi128 = row (codes "_mm_andnot_si128") (form.Two Xmm (two.Lanes lane2.AndNot Byte))
 logic_row v.CmpeqEpi16 = row (codes "_mm_cmpeq_epi16") (form.Two Xmm (two.Lanes lane2.Equal Word))
 logic_row v.CmpeqEpi32 = row (codes "_mm_cmpeq_epi32") (form.Two Xmm (two.Lanes lane2.Equal Dword))
 logic_row v.CmpeqEpi8 = row (codes "_mm_cmpeq_epi8") (form.Two Xmm (two.Lanes lane2.Equal Byte))
@@ -25,7 +25,7 @@ logic_row v.CmpgtEpi8 = row (codes "_mm_cmpgt_epi8") (form.Two Xmm (two.Lanes la
 logic_row v.CmpltEpi16 = row (codes "_mm_cmplt_epi16") (form.Two Xmm (two.Lanes lane2.Less Word))
 logic_row v.CmpltEpi32 = row (codes "_mm_cmplt_epi32") (form.Two Xmm (two.Lanes lane2.Less Dword))
 logic_row v.CmpltEpi8 = row (codes "_mm_cmplt_epi8") (form.Two Xmm (two.Lanes lane2.Less Byte))
-logic_row v.OrSi128 = row (codes "_mm_or_si128") (form.Two Xmm (two.Lanes lane2.Or Qword))
+logic_row v.OrSi128 = row (codes "_mm_or_si128") (form.Two Xmm (two.Lanes lane2.Or Byte))
 logic_row v.SllEpi16 = row (codes "_mm_sll_epi16") (form.Counted Xmm shift.Left Word)
 logic_row v.SllEpi32 = row (codes "_mm_sll_epi32") (form.Counted Xmm shift.Left Dword)
 logic_row v.SllEpi64 = row (codes "_mm_sll_epi64") (form.Counted Xmm shift.Left Qword)
@@ -42,7 +42,7 @@ logic_row v.SrlEpi64 = row (codes "_mm_srl_epi64") (form.Counted Xmm shift.Right
 logic_row v.SrliEpi16 = row (codes "_mm_srli_epi16") (form.OneImm Xmm (one_imm.Shifted shift.Right Word))
 logic_row v.SrliEpi32 = row (codes "_mm_srli_epi32") (form.OneImm Xmm (one_imm.Shifted shift.Right Dword))
 logic_row v.SrliEpi64 = row (codes "_mm_srli_epi64") (form.OneImm Xmm (one_imm.Shifted shift.Right Qword))
-logic_row v.XorSi128 = row (codes "_mm_xor_si128") (form.Two Xmm (two.Lanes lane2.Xor Qword))
+logic_row v.XorSi128 = row (codes "_mm_xor_si128") (form.Two Xmm (two.Lanes lane2.Xor Byte))
 
 -- in ascending order of their names
 unfoldable pub logic_rows : List BaseOp

@@ -85,6 +85,7 @@ macro_rules! group {
 
 static ROWS: &[(&str, BaseOp)] = group!(names_and_rows BaseOp);
 
+/// How many rows the group has.
 #[tactic(auto, unfolding(crate::specs::ArithmeticRows::arithmetic_rows))]
 pub fn count() -> usize
     ensures value { result ≡ length arithmetic_rows }
@@ -93,6 +94,7 @@ pub fn count() -> usize
     ROWS.len()
 }
 
+/// Row `k` of the group, counted from 0.
 #[tactic(auto, unfolding(crate::specs::ArithmeticRows::arithmetic_rows))]
 pub fn at(k: usize) -> BaseOp
     requires { k < length arithmetic_rows }
@@ -101,18 +103,21 @@ pub fn at(k: usize) -> BaseOp
     row_at(ROWS, k)
 }
 
+/// The row of that name, or None where the group has none.
 pub fn find(name: &[u8]) -> Option<BaseOp>
     ensures { result ≡ first_named name_of arithmetic_rows name.now }
 {
     row_named(ROWS, name)
 }
 
+/// The row's name.
 pub fn name(op: Arithmetic) -> &'static str
     ensures { result.now ≡ (arithmetic_row op).name }
 {
     group!(name_of_row op)
 }
 
+/// The row's form.
 pub fn form(op: Arithmetic) -> Form
     ensures { result ≡ (arithmetic_row op).form }
 {

@@ -52,8 +52,8 @@ macro_rules! group {
     ($rule:ident $($argument:ident)*) => {
         $rule! {
             Logic $($argument)*;
-            "_mm_and_si128", AndSi128, Form::Two(Xmm, Two::Lanes(Lane2::And, Qword));
-            "_mm_andnot_si128", AndnotSi128, Form::Two(Xmm, Two::Lanes(Lane2::AndNot, Qword));
+            "_mm_and_si128", AndSi128, Form::Two(Xmm, Two::Lanes(Lane2::And, Byte));
+            "_mm_andnot_si128", AndnotSi128, Form::Two(Xmm, Two::Lanes(Lane2::AndNot, Byte));
             "_mm_cmpeq_epi16", CmpeqEpi16, Form::Two(Xmm, Two::Lanes(Lane2::Equal, Word));
             "_mm_cmpeq_epi32", CmpeqEpi32, Form::Two(Xmm, Two::Lanes(Lane2::Equal, Dword));
             "_mm_cmpeq_epi8", CmpeqEpi8, Form::Two(Xmm, Two::Lanes(Lane2::Equal, Byte));
@@ -63,7 +63,7 @@ macro_rules! group {
             "_mm_cmplt_epi16", CmpltEpi16, Form::Two(Xmm, Two::Lanes(Lane2::Less, Word));
             "_mm_cmplt_epi32", CmpltEpi32, Form::Two(Xmm, Two::Lanes(Lane2::Less, Dword));
             "_mm_cmplt_epi8", CmpltEpi8, Form::Two(Xmm, Two::Lanes(Lane2::Less, Byte));
-            "_mm_or_si128", OrSi128, Form::Two(Xmm, Two::Lanes(Lane2::Or, Qword));
+            "_mm_or_si128", OrSi128, Form::Two(Xmm, Two::Lanes(Lane2::Or, Byte));
             "_mm_sll_epi16", SllEpi16, Form::Counted(Xmm, Shift::Left, Word);
             "_mm_sll_epi32", SllEpi32, Form::Counted(Xmm, Shift::Left, Dword);
             "_mm_sll_epi64", SllEpi64, Form::Counted(Xmm, Shift::Left, Qword);
@@ -80,13 +80,14 @@ macro_rules! group {
             "_mm_srli_epi16", SrliEpi16, Form::OneImm(Xmm, OneImm::Shifted(Shift::Right, Word));
             "_mm_srli_epi32", SrliEpi32, Form::OneImm(Xmm, OneImm::Shifted(Shift::Right, Dword));
             "_mm_srli_epi64", SrliEpi64, Form::OneImm(Xmm, OneImm::Shifted(Shift::Right, Qword));
-            "_mm_xor_si128", XorSi128, Form::Two(Xmm, Two::Lanes(Lane2::Xor, Qword));
+            "_mm_xor_si128", XorSi128, Form::Two(Xmm, Two::Lanes(Lane2::Xor, Byte));
         }
     };
 }
 
 static ROWS: &[(&str, BaseOp)] = group!(names_and_rows BaseOp);
 
+/// How many rows the group has.
 #[tactic(auto, unfolding(crate::specs::LogicRows::logic_rows))]
 pub fn count() -> usize
     ensures value { result ≡ length logic_rows }
@@ -95,6 +96,7 @@ pub fn count() -> usize
     ROWS.len()
 }
 
+/// Row `k` of the group, counted from 0.
 #[tactic(auto, unfolding(crate::specs::LogicRows::logic_rows))]
 pub fn at(k: usize) -> BaseOp
     requires { k < length logic_rows }
@@ -103,18 +105,21 @@ pub fn at(k: usize) -> BaseOp
     row_at(ROWS, k)
 }
 
+/// The row of that name, or None where the group has none.
 pub fn find(name: &[u8]) -> Option<BaseOp>
     ensures { result ≡ first_named name_of logic_rows name.now }
 {
     row_named(ROWS, name)
 }
 
+/// The row's name.
 pub fn name(op: Logic) -> &'static str
     ensures { result.now ≡ (logic_row op).name }
 {
     group!(name_of_row op)
 }
 
+/// The row's form.
 pub fn form(op: Logic) -> Form
     ensures { result ≡ (logic_row op).form }
 {

@@ -12,8 +12,8 @@ use Rattle.intel_wide.specs.declared.logic.Logic.{Logic}
 use Rattle.intel_wide.specs.declared.logic.Logic.TheVariants as v
 
 abbrev pub logic_row : Logic → Row
-logic_row v.AndSi256 = row (codes "_mm256_and_si256") (form.Two Ymm (two.Lanes lane2.And Qword))
-logic_row v.AndnotSi256 = row (codes "_mm256_andnot_si256") (form.Two Ymm (two.Lanes lane2.AndNot Qword))
+logic_row v.AndSi256 = row (codes "_mm256_and_si256") (form.Two Ymm (two.Lanes lane2.And Byte))
+logic_row v.AndnotSi256 = row (codes "_mm256_andnot_si256") (form.Two Ymm (two.Lanes lane2.AndNot Byte))
 logic_row v.CmpeqEpi16 = row (codes "_mm256_cmpeq_epi16") (form.Two Ymm (two.Lanes lane2.Equal Word))
 logic_row v.CmpeqEpi32 = row (codes "_mm256_cmpeq_epi32") (form.Two Ymm (two.Lanes lane2.Equal Dword))
 logic_row v.CmpeqEpi64 = row (codes "_mm256_cmpeq_epi64") (form.Two Ymm (two.Lanes lane2.Equal Qword))
@@ -22,8 +22,8 @@ logic_row v.CmpgtEpi16 = row (codes "_mm256_cmpgt_epi16") (form.Two Ymm (two.Lan
 logic_row v.CmpgtEpi32 = row (codes "_mm256_cmpgt_epi32") (form.Two Ymm (two.Lanes lane2.Greater Dword))
 logic_row v.CmpgtEpi64 = row (codes "_mm256_cmpgt_epi64") (form.Two Ymm (two.Lanes lane2.Greater Qword))
 logic_row v.CmpgtEpi8 = row (codes "_mm256_cmpgt_epi8") (form.Two Ymm (two.Lanes lane2.Greater Byte))
-logic_row v.OrSi256 = row (codes "_mm256_or_si256") (form.Two Ymm (two.Lanes lane2.Or Qword))
-logic_row v.XorSi256 = row (codes "_mm256_xor_si256") (form.Two Ymm (two.Lanes lane2.Xor Qword))
+logic_row v.OrSi256 = row (codes "_mm256_or_si256") (form.Two Ymm (two.Lanes lane2.Or Byte))
+logic_row v.XorSi256 = row (codes "_mm256_xor_si256") (form.Two Ymm (two.Lanes lane2.Xor Byte))
 
 -- in ascending order of their names
 unfoldable pub logic_rows : List WideOp

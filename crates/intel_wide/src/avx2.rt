@@ -74,6 +74,7 @@ macro_rules! group {
 
 static ROWS: &[(&str, WideOp)] = group!(names_and_rows WideOp);
 
+/// How many rows the group has.
 #[tactic(auto, unfolding(crate::specs::Avx2Rows::avx2_rows))]
 pub fn count() -> usize
     ensures value { result ≡ length avx2_rows }
@@ -82,6 +83,7 @@ pub fn count() -> usize
     ROWS.len()
 }
 
+/// Row `k` of the group, counted from 0.
 #[tactic(auto, unfolding(crate::specs::Avx2Rows::avx2_rows))]
 pub fn at(k: usize) -> WideOp
     requires { k < length avx2_rows }
@@ -90,18 +92,21 @@ pub fn at(k: usize) -> WideOp
     row_at(ROWS, k)
 }
 
+/// The row of that name, or None where the group has none.
 pub fn find(name: &[u8]) -> Option<WideOp>
     ensures { result ≡ first_named name_of avx2_rows name.now }
 {
     row_named(ROWS, name)
 }
 
+/// The row's name.
 pub fn name(op: Avx2) -> &'static str
     ensures { result.now ≡ (avx2_row op).name }
 {
     group!(name_of_row op)
 }
 
+/// The row's form.
 pub fn form(op: Avx2) -> Form
     ensures { result ≡ (avx2_row op).form }
 {

@@ -15,6 +15,7 @@ pub enum Half {
     CmpgtEpi64,
 }
 
+/// The row's name.
 pub fn name(op: Half) -> &'static str
     ensures { result.now ≡ (half_row op).name }
 {
@@ -23,6 +24,7 @@ pub fn name(op: Half) -> &'static str
     }
 }
 
+/// The row's form.
 pub fn form(op: Half) -> Form
     ensures { result ≡ (half_row op).form }
 {

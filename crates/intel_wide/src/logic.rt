@@ -35,8 +35,8 @@ macro_rules! group {
     ($rule:ident $($argument:ident)*) => {
         $rule! {
             Logic $($argument)*;
-            "_mm256_and_si256", AndSi256, Form::Two(Ymm, Two::Lanes(Lane2::And, Qword));
-            "_mm256_andnot_si256", AndnotSi256, Form::Two(Ymm, Two::Lanes(Lane2::AndNot, Qword));
+            "_mm256_and_si256", AndSi256, Form::Two(Ymm, Two::Lanes(Lane2::And, Byte));
+            "_mm256_andnot_si256", AndnotSi256, Form::Two(Ymm, Two::Lanes(Lane2::AndNot, Byte));
             "_mm256_cmpeq_epi16", CmpeqEpi16, Form::Two(Ymm, Two::Lanes(Lane2::Equal, Word));
             "_mm256_cmpeq_epi32", CmpeqEpi32, Form::Two(Ymm, Two::Lanes(Lane2::Equal, Dword));
             "_mm256_cmpeq_epi64", CmpeqEpi64, Form::Two(Ymm, Two::Lanes(Lane2::Equal, Qword));
@@ -45,14 +45,15 @@ macro_rules! group {
             "_mm256_cmpgt_epi32", CmpgtEpi32, Form::Two(Ymm, Two::Lanes(Lane2::Greater, Dword));
             "_mm256_cmpgt_epi64", CmpgtEpi64, Form::Two(Ymm, Two::Lanes(Lane2::Greater, Qword));
             "_mm256_cmpgt_epi8", CmpgtEpi8, Form::Two(Ymm, Two::Lanes(Lane2::Greater, Byte));
-            "_mm256_or_si256", OrSi256, Form::Two(Ymm, Two::Lanes(Lane2::Or, Qword));
-            "_mm256_xor_si256", XorSi256, Form::Two(Ymm, Two::Lanes(Lane2::Xor, Qword));
+            "_mm256_or_si256", OrSi256, Form::Two(Ymm, Two::Lanes(Lane2::Or, Byte));
+            "_mm256_xor_si256", XorSi256, Form::Two(Ymm, Two::Lanes(Lane2::Xor, Byte));
         }
     };
 }
 
 static ROWS: &[(&str, WideOp)] = group!(names_and_rows WideOp);
 
+/// How many rows the group has.
 #[tactic(auto, unfolding(crate::specs::LogicRows::logic_rows))]
 pub fn count() -> usize
     ensures value { result ≡ length logic_rows }
@@ -61,6 +62,7 @@ pub fn count() -> usize
     ROWS.len()
 }
 
+/// Row `k` of the group, counted from 0.
 #[tactic(auto, unfolding(crate::specs::LogicRows::logic_rows))]
 pub fn at(k: usize) -> WideOp
     requires { k < length logic_rows }
@@ -69,18 +71,21 @@ pub fn at(k: usize) -> WideOp
     row_at(ROWS, k)
 }
 
+/// The row of that name, or None where the group has none.
 pub fn find(name: &[u8]) -> Option<WideOp>
     ensures { result ≡ first_named name_of logic_rows name.now }
 {
     row_named(ROWS, name)
 }
 
+/// The row's name.
 pub fn name(op: Logic) -> &'static str
     ensures { result.now ≡ (logic_row op).name }
 {
     group!(name_of_row op)
 }
 
+/// The row's form.
 pub fn form(op: Logic) -> Form
     ensures { result ≡ (logic_row op).form }
 {

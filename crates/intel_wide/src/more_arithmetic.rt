@@ -79,6 +79,7 @@ macro_rules! group {
 
 static ROWS: &[(&str, WideOp)] = group!(names_and_rows WideOp);
 
+/// How many rows the group has.
 #[tactic(auto, unfolding(crate::specs::MoreArithmeticRows::more_arithmetic_rows))]
 pub fn count() -> usize
     ensures value { result ≡ length more_arithmetic_rows }
@@ -87,6 +88,7 @@ pub fn count() -> usize
     ROWS.len()
 }
 
+/// Row `k` of the group, counted from 0.
 #[tactic(auto, unfolding(crate::specs::MoreArithmeticRows::more_arithmetic_rows))]
 pub fn at(k: usize) -> WideOp
     requires { k < length more_arithmetic_rows }
@@ -95,18 +97,21 @@ pub fn at(k: usize) -> WideOp
     row_at(ROWS, k)
 }
 
+/// The row of that name, or None where the group has none.
 pub fn find(name: &[u8]) -> Option<WideOp>
     ensures { result ≡ first_named name_of more_arithmetic_rows name.now }
 {
     row_named(ROWS, name)
 }
 
+/// The row's name.
 pub fn name(op: MoreArithmetic) -> &'static str
     ensures { result.now ≡ (more_arithmetic_row op).name }
 {
     group!(name_of_row op)
 }
 
+/// The row's form.
 pub fn form(op: MoreArithmetic) -> Form
     ensures { result ≡ (more_arithmetic_row op).form }
 {

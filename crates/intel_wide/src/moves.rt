@@ -76,6 +76,7 @@ macro_rules! group {
 
 static ROWS: &[(&str, WideOp)] = group!(names_and_rows WideOp);
 
+/// How many rows the group has.
 #[tactic(auto, unfolding(crate::specs::MovesRows::moves_rows))]
 pub fn count() -> usize
     ensures value { result ≡ length moves_rows }
@@ -84,6 +85,7 @@ pub fn count() -> usize
     ROWS.len()
 }
 
+/// Row `k` of the group, counted from 0.
 #[tactic(auto, unfolding(crate::specs::MovesRows::moves_rows))]
 pub fn at(k: usize) -> WideOp
     requires { k < length moves_rows }
@@ -92,18 +94,21 @@ pub fn at(k: usize) -> WideOp
     row_at(ROWS, k)
 }
 
+/// The row of that name, or None where the group has none.
 pub fn find(name: &[u8]) -> Option<WideOp>
     ensures { result ≡ first_named name_of moves_rows name.now }
 {
     row_named(ROWS, name)
 }
 
+/// The row's name.
 pub fn name(op: Moves) -> &'static str
     ensures { result.now ≡ (moves_row op).name }
 {
     group!(name_of_row op)
 }
 
+/// The row's form.
 pub fn form(op: Moves) -> Form
     ensures { result ≡ (moves_row op).form }
 {
