@@ -20,7 +20,7 @@ def named(k):
     while k:
         k, rest = divmod(k, len(DIGITS))
         digits += DIGITS[rest]
-    return "_" + digits
+    return "V" + digits
 
 
 def steps(n):
