@@ -12,6 +12,7 @@ use Rattle.address_taken.specs.Addressed.{takes, takes_in, takes_in_all, takes_s
 use Rattle.scopes.specs.Scopes.{Env, Callee, named}
 use Rattle.expression_types.specs.Check.{check}
 use Rattle.statement_types.specs.Statements.{with_objects, around, check_statements}
+use Rattle.vector_types.specs.Rows.{row_of_table, is_neon_row}
 use Rattle.vector_types.specs.Functions.{is_before, is_helper, check_parameters, check_function}
 use Rattle.c_memory.specs.declared.blocks.Block.{Block as MemoryBlock}
 use Rattle.c_memory.specs.declared.value.Value.{Value}
@@ -34,7 +35,7 @@ use Rattle.simd_top.proofs.ReadParameters.{AreRead, parameters_read, parameters_
 
 -- what the parts of the Neon unit see before a function's own
 abbrev pub outside_functions : List (List ℕ × Callee) → ℕ → Env
-outside_functions functions here = record { dialect = Neon; outer = []; innermost = []; functions = functions; here = here; calls_none = false }
+outside_functions functions here = record { dialect = Neon; rows = row_of_table Neon; neon = is_neon_row; outer = []; innermost = []; functions = functions; here = here; calls_none = false }
 
 -- ---- no address is taken
 

@@ -13,6 +13,7 @@ use Rattle.c_tree.specs.Tree.{Tree, Kind, Trees, Node, Const, Name, Unary, Step,
 use Rattle.c_tree.specs.Same.{bare, stripped, stripped_kind, stripped_all}
 use Rattle.address_taken.specs.Addressed.{takes_in}
 use Rattle.scopes.specs.Scopes.{Env, Scope, Callee, named}
+use Rattle.vector_types.specs.Rows.{row_of_table, is_neon_row}
 use Rattle.scopes.specs.declared.environment.Object.{Object}
 use Rattle.expression_types.specs.Check.{check, check_kind}
 use Rattle.c_memory.specs.declared.value.Value.{Value}
@@ -97,7 +98,7 @@ of_form names (Str x) h = absurd (cc)
 
 -- what the body of a function of the Neon unit sees: its parameters, and the unit's functions
 abbrev pub seen : Scope → List (List ℕ × Callee) → ℕ → Bool → Env
-seen scope functions here calls_none = record { dialect = Neon; outer = [] ∷ []; innermost = scope; functions = functions; here = here; calls_none = calls_none }
+seen scope functions here calls_none = record { dialect = Neon; rows = row_of_table Neon; neon = is_neon_row; outer = [] ∷ []; innermost = scope; functions = functions; here = here; calls_none = calls_none }
 
 -- an object that is a register, const or not
 abbrev pub known : Bool → Object

@@ -9,15 +9,16 @@ use Rattle.intel_base.specs.declared.BaseOp.{BaseOp}
 use Rattle.intel_base.specs.declared.BaseOp.TheVariants.{AddEpi8, SubEpi8, AvgEpu8, MinEpu8, XorSi128}
 use Rattle.neon_table.specs.Rows as neon_table
 use Rattle.object_types.specs.Reserved.{is_reserved, is_vector_type, is_predefined}
+use Rattle.vector_types.specs.Rows.{is_neon_row}
 use Rattle.simd_top.specs.Rows.{neon_name, moved_row}
 use Rattle.simd_top.specs.Form.{is_free}
 use Rattle.simd_top.proofs.Conjunction.{split_and}
 use Rattle.simd_top.proofs.Values.{intel_name}
 
-not_reserved : (x : List ℕ) → is_free x ≡ true → is_reserved X86 x ≡ false
-not_reserved x h = go (is_reserved X86 x) refl (split_and _ (not (is_reserved X86 x)) h).1
+not_reserved : (x : List ℕ) → is_free x ≡ true → is_reserved X86 (is_neon_row x) x ≡ false
+not_reserved x h = go (is_reserved X86 (is_neon_row x) x) refl (split_and _ (not (is_reserved X86 (is_neon_row x) x)) h).1
   where
-    go : (v : Bool) → is_reserved X86 x ≡ v → not v ≡ true → is_reserved X86 x ≡ false
+    go : (v : Bool) → is_reserved X86 (is_neon_row x) x ≡ v → not v ≡ true → is_reserved X86 (is_neon_row x) x ≡ false
     go true e k = absurd (cc)
     go false e k = e
 
@@ -33,14 +34,14 @@ no_neon_row x free =
     let c = neither (begins || is_some (neon_table.find_of x)) (is_vector_type x) b.0 in
     (neither begins (is_some (neon_table.find_of x)) c.0).1
 
-intel_reserved : (op : BaseOp) → is_reserved X86 (intel_name op) ≡ true
+intel_reserved : (op : BaseOp) → is_reserved X86 (is_neon_row (intel_name op)) (intel_name op) ≡ true
 intel_reserved AddEpi8 = refl
 intel_reserved SubEpi8 = refl
 intel_reserved AvgEpu8 = refl
 intel_reserved MinEpu8 = refl
 intel_reserved XorSi128 = refl
 
-neon_reserved : (op : BaseOp) → is_reserved X86 (neon_name (moved_row op)) ≡ true
+neon_reserved : (op : BaseOp) → is_reserved X86 (is_neon_row (neon_name (moved_row op))) (neon_name (moved_row op)) ≡ true
 unfolding neon_table.find_of
 neon_reserved AddEpi8 = refl
 neon_reserved SubEpi8 = refl
@@ -48,7 +49,7 @@ neon_reserved AvgEpu8 = refl
 neon_reserved MinEpu8 = refl
 neon_reserved XorSi128 = refl
 
-other_name : (x y : List ℕ) → is_reserved X86 x ≡ true → is_reserved X86 y ≡ false → bytes_eq x y ≡ false
+other_name : (x y : List ℕ) → is_reserved X86 (is_neon_row x) x ≡ true → is_reserved X86 (is_neon_row y) y ≡ false → bytes_eq x y ≡ false
 other_name x y h k = go (bytes_eq x y) refl
   where
     go : (v : Bool) → bytes_eq x y ≡ v → bytes_eq x y ≡ false

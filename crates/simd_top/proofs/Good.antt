@@ -13,6 +13,7 @@ use Rattle.c_parse.specs.Symbols.{name_symbol}
 use Rattle.intel_base.specs.declared.BaseOp.{BaseOp}
 use Rattle.intel_base.specs.declared.BaseOp.TheVariants.{AddEpi8, SubEpi8, AvgEpu8, MinEpu8, XorSi128}
 use Rattle.object_types.specs.Reserved.{is_reserved}
+use Rattle.vector_types.specs.Rows.{is_neon_row}
 use Rattle.scopes.specs.Scopes.{same_name}
 use Rattle.round_trip.specs.Good.{GoodName, Good, GoodKind, GoodAll}
 use Rattle.round_trip.specs.GoodUnits.{GoodObjectType, GoodPart, GoodList, HasShape, IsNoArray, GoodParameter, GoodParameters, GoodStatement, GoodStatements, GoodFunction, GoodItem, GoodUnit}
@@ -39,7 +40,7 @@ plain_is symbols.Other h = absurd (cc)
 
 good_name : (x : List ℕ) → is_free x ≡ true → GoodName x
 good_name x h =
-    let a = split_and (is_name x && is_plain_name (name_symbol Neon x)) (not (is_reserved X86 x)) h in
+    let a = split_and (is_name x && is_plain_name (name_symbol Neon x)) (not (is_reserved X86 (is_neon_row x) x)) h in
     let b = split_and (is_name x) (is_plain_name (name_symbol Neon x)) a.0 in
     record { named = b.0; free = plain_is (name_symbol Neon x) b.1 }
 

@@ -19,15 +19,15 @@ use Rattle.const_imm.specs.Sizes.{size_of}
 use Rattle.object_types.specs.Reserved.{is_reserved}
 use Rattle.object_types.specs.Objects.{known as known_object, is_object_type, is_array, new_name, unfit, count_of, is_alignment, alignment_of, alignment, is_small, small, is_room, is_member, member, members, count_all, element_of, number_of, is_open, with_number, Length, length_of, stands_before, aligned, closed_type, small_once, value_fits, number_for, is_no_trees, counted, start, declared_type, behind_declarator, behind_name, check_object}
 use Rattle.statement_types.specs.Statements.{Around, inside, looped, with_objects, check_objects, scalar, condition, maybe_condition, maybe_expression, returned_value, returned, in_a_loop, beyond, beyond_optional, around, check_statement, check_optional, check_statements}
-use Rattle.order_rule.specs.Callees.{Callees}
+use Rattle.order_rule.specs.Callees.{Before, Callees}
 use Rattle.order_rule.specs.Full.{full_expressions, first_broken, refusal}
 use Rattle.vector_types.specs.Functions.{is_taken, function_name, is_bare, check_parameter, check_parameters, in_function, check_function}
 use Rattle.vector_types.specs.Tables.{fits_file, table_name, judged_alignment, scalar_value, constant_value, check_table}
-use Rattle.vector_types.specs.Order.{unless_broken, in_order}
+use Rattle.vector_types.specs.Order.{calls, unless_broken, in_order}
 use Rattle.vector_types.specs.Units.{Judged, and_judged, item_checked, beyond_item, callees_beyond, next_item, check_items, unit_env, unless_refused, check_unit}
-use Rattle.scopes.specs.Scopes.{Env, Callee, named, object_named, with_object, is_declared_here}
+use Rattle.scopes.specs.Scopes.{Env, Callee, Row, named, object_named, with_object, is_declared_here}
 use Rattle.scopes.specs.declared.environment.Object.{Object as Known}
-use Rattle.expression_types.specs.Names.{Row, Target, row_named}
+use Rattle.expression_types.specs.Names.{Target}
 use Rattle.expression_types.specs.Check.{Checked, ◌>>=◌, refuse, typed, admitted, used_as, used, row_called, function_called, object_called, called, in_range, immediate_fits, fitting, call, one, two, check, check_kind, check_all}
 
 -- the number of a refusal is one of those
@@ -81,7 +81,7 @@ fine_row_called x p env None = fine_if _ passes (known refl)
 fine_row_called x p env (Some r) = passes
 
 fine_function_called : (x : List ℕ) (p : Place) (env : Env) (o : Option Callee) → Fine (function_called x p env o)
-fine_function_called x p env None = fine_row_called x p env (row_named env.dialect x)
+fine_function_called x p env None = fine_row_called x p env (env.rows x)
 fine_function_called x p env (Some f) = fine_if _ passes (known refl)
 
 fine_object_called : (x : List ℕ) (p : Place) (env : Env) (o : Option Known) → Fine (object_called x p env o)
@@ -206,7 +206,7 @@ fine_aligned now (Some e) env = fine_if now (fine_bind (fine_alignment e env) (�
 
 fine_new_name : (x : List ℕ) (p : Place) (t : CType) (env : Env) → Fine (new_name x p t env)
 fine_new_name x p t env =
-    fine_if (is_reserved env.dialect x) (known refl) (fine_if (is_declared_here x env) (known refl) (fine_if (not (is_object_type t)) (known refl) (fine_if (is_void_pointer t) (known refl) passes)))
+    fine_if (is_reserved env.dialect (env.neon x) x) (known refl) (fine_if (is_declared_here x env) (known refl) (fine_if (not (is_object_type t)) (known refl) (fine_if (is_void_pointer t) (known refl) passes)))
 
 fine_length : (o : Option Tree) (env : Env) → Fine (length_of o env)
 fine_length None env = passes
@@ -315,7 +315,7 @@ mutual
 
 fine_function_name : (x : List ℕ) (p : Place) (t : CType) (env : Env) → Fine (function_name x p t env)
 fine_function_name x p t env =
-    fine_if (is_reserved env.dialect x) (known refl) (fine_if (is_taken x env) (known refl) (fine_if (is_array t) (known refl) (fine_if (is_void_pointer t) (known refl) passes)))
+    fine_if (is_reserved env.dialect (env.neon x) x) (known refl) (fine_if (is_taken x env) (known refl) (fine_if (is_array t) (known refl) (fine_if (is_void_pointer t) (known refl) passes)))
 
 fine_parameter : (d : Object) (env : Env) → Fine (check_parameter d env)
 fine_parameter d env = fine_if (is_bare d) (fine_object d env) (known refl)
@@ -336,7 +336,7 @@ fine_judged now (Some e) env = fine_if now (fine_bind (fine_alignment e env) (λ
 
 fine_table_name : (d : Object) (t : CType) (env : Env) → Fine (table_name d t env)
 fine_table_name d t env =
-    fine_if (is_reserved env.dialect d.name) (known refl) (fine_if (is_taken d.name env) (known refl) (fine_if (not (fits_file d t)) (known refl) (fine_if (not d.constant) (known refl) passes)))
+    fine_if (is_reserved env.dialect (env.neon d.name) d.name) (known refl) (fine_if (is_taken d.name env) (known refl) (fine_if (not (fits_file d t)) (known refl) (fine_if (not d.constant) (known refl) passes)))
 
 fine_scalar_value : (t : CType) (d : Object) (e : Tree) (env : Env) → Fine (scalar_value t d e env)
 fine_scalar_value t d e env = fine_bind (fine_judged (not (stands_before d.align d.place)) d.align env) (λ u. fine_bind (fine_check e env) (λ v. fine_bind (fine_member t true v) (λ w. passes)))
@@ -361,8 +361,8 @@ fine_order Neon callees g = passes
 
 -- ---- units
 
-fine_item : (u : External) (env : Env) (callees : Callees) → Fine (item_checked u env callees)
-fine_item (Function f) env callees = fine_bind (fine_bind (fine_function f env) (λ g. fine_order env.dialect callees g)) (λ v. passes)
+fine_item : (u : External) (env : Env) (callees : Before) → Fine (item_checked u env callees)
+fine_item (Function f) env callees = fine_bind (fine_bind (fine_function f env) (λ g. fine_order env.dialect (calls callees env) g)) (λ v. passes)
 fine_item (Table d static) env callees = fine_bind (fine_table d env) (λ v. passes)
 
 abbrev pub AllKnown : List Refusal → Type 0
@@ -373,7 +373,7 @@ judged_known : (r : Checked External) (j : Judged) → Fine r → AllKnown j.ref
 judged_known (Ok v) j h k = k
 judged_known (Err e) j h k = (h.is, k)
 
-items_known : (us : List External) (env : Env) (callees : Callees) → AllKnown (check_items us env callees).refusals
+items_known : (us : List External) (env : Env) (callees : Before) → AllKnown (check_items us env callees).refusals
 items_known [] env callees = tt
 items_known (u ∷ rest) env callees =
     judged_known (item_checked u env callees) (check_items rest (next_item (beyond_item u env)) (callees_beyond u env callees)) (fine_item u env callees)

@@ -12,6 +12,7 @@ use Rattle.c_parse.specs.declared.symbols.Symbol.{Symbol}
 use Rattle.c_parse.specs.declared.symbols.Symbol.TheVariants as symbols
 use Rattle.c_parse.specs.Symbols.{name_symbol}
 use Rattle.object_types.specs.Reserved.{is_reserved}
+use Rattle.vector_types.specs.Rows.{is_neon_row}
 use Rattle.scopes.specs.Scopes.{same_name}
 use Rattle.simd_top.specs.Rows.{intel_row}
 
@@ -26,7 +27,7 @@ is_plain_name s = false
 
 -- A name that both units may declare: one of C (C11 6.4.2.1) that is no word of the Neon dialect, and isn't reserved.
 abbrev pub is_free : List ℕ → Bool
-is_free x = is_name x && is_plain_name (name_symbol Neon x) && not (is_reserved X86 x)
+is_free x = is_name x && is_plain_name (name_symbol Neon x) && not (is_reserved X86 (is_neon_row x) x)
 
 -- An expression: a parameter, or a row of two expressions.
 abbrev mutual

@@ -122,7 +122,8 @@ fn is_free(alloc: Global, name: &Text) -> Result<bool, AllocError>
     ensures { IfOk result (λ b. b ≡ is_free name.now) }
 {
     let is_neon = is_neon_name(alloc, name)?;
-    Ok(is_name(name.bytes()) && is_neon && !is_reserved(Dialect::X86, name.bytes()))
+    let is_row = neon_table::find(name.bytes()).is_some();
+    Ok(is_name(name.bytes()) && is_neon && !is_reserved(Dialect::X86, is_row, name.bytes()))
 }
 
 fn is_register(ty: CType) -> bool
