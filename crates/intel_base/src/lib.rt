@@ -1,50 +1,149 @@
-//! The Intel rows of SSE2 on registers of 16 bytes, and their values by the Intel Intrinsics Guide.
+//! The Intel rows of SSE2 and SSE3 on 16 bytes: their names, forms and values, by the Intel Intrinsics Guide.
 #![tactic(auto)]
 
-ghost use Rattle.std.specs.Prelude.{◌≡◌, ◌<◌, ◌%◌};
-ghost use Rattle.intel_base.specs.Rows.{lane_of, row_of};
+ghost use Rattle.std.specs.Prelude.{◌≡◌, ◌<◌, ◌+◌, ◌∷◌, ◌++◌, drop, length};
+ghost use Rattle.intel_forms.specs.Forms.{value_of};
+ghost use Rattle.intel_base.specs.Named.{name_of, form_of};
+ghost use Rattle.intel_base.specs.Rows.{rows, find_of};
+ghost use Rattle.intel_base.specs.ArithmeticRows.{arithmetic_rows};
+ghost use Rattle.intel_base.specs.LogicRows.{logic_rows};
+ghost use Rattle.intel_base.specs.MovesRows.{moves_rows};
+ghost use Rattle.intel_base.specs.ScalarsRows.{scalars_rows};
+ghost use Rattle.intel_base.specs.LoadsRows.{loads_rows};
 
-use lane_core::map2;
+pub mod arithmetic;
+pub mod loads;
+pub mod logic;
+pub mod moves;
+pub mod scalars;
 
-pub mod memory;
+use intel_forms::Form;
+use lane_core::table::Arg;
 
-pub use memory::MemoryOp;
-
-/// A row, named after the intrinsic without its prefix `_mm_`.
+/// A row, by the group that has it.
 #[derive(Clone, Copy, Debug, PartialEq, Eq)]
 pub enum BaseOp {
-    /// `_mm_add_epi8`: the sum of each two bytes, wrapping.
-    AddEpi8,
-    /// `_mm_sub_epi8`: the first byte less the second, wrapping.
-    SubEpi8,
-    /// `_mm_avg_epu8`: the average of each two unsigned bytes, a half rounded up.
-    AvgEpu8,
-    /// `_mm_min_epu8`: the lesser of each two unsigned bytes.
-    MinEpu8,
-    /// `_mm_xor_si128`: exclusive or, bit by bit.
-    XorSi128,
+    Arithmetic(arithmetic::Arithmetic),
+    Logic(logic::Logic),
+    Moves(moves::Moves),
+    Scalars(scalars::Scalars),
+    Loads(loads::Loads),
 }
 
-/// The row's answer for a lane of each operand. The lane has it modulo its size.
-#[tactic(auto, unfolding(lane_core::specs::Register::wrapped))]
-fn on_lanes(op: BaseOp, x: u64, y: u64) -> u64
-    requires first { x < 256 }
-    requires second { y < 256 }
-    ensures { result % 256 ≡ lane_of op x y % 256 }
+/// The row of that name, or None where the list has none.
+#[tactic(auto, using(row_names::specs::Groups::named_in_both))]
+pub fn find(name: &[u8]) -> Option<BaseOp>
+    ensures { result ≡ find_of name.now }
 {
-    match op {
-        BaseOp::AddEpi8 => x + y,
-        BaseOp::SubEpi8 => x + 256 - y,
-        BaseOp::AvgEpu8 => (x + y + 1) >> 1,
-        BaseOp::MinEpu8 => x.min(y),
-        BaseOp::XorSi128 => x ^ y,
+    let found = loads::find(name);
+    let found = scalars::find(name).or(found);
+    let found = moves::find(name).or(found);
+    let found = logic::find(name).or(found);
+    let found = arithmetic::find(name).or(found);
+    found
+}
+
+/// How many rows the list has.
+pub fn count() -> usize
+    ensures value { result ≡ length rows }
+    ensures few { result < 1024 }
+{
+    arithmetic::count() + logic::count() + moves::count() + scalars::count() + loads::count()
+}
+
+/// Row `k` of the list, counted from 0.
+pub fn at(k: usize) -> BaseOp
+    requires { k < length rows }
+    ensures { drop k rows ≡ result ∷ drop (k + 1) rows }
+{
+    from_arithmetic(k)
+}
+
+/// Row `k` of the groups from `arithmetic` on.
+#[tactic(auto, using(row_names::proofs::Listed::in_first, row_names::proofs::Listed::behind_first))]
+fn from_arithmetic(k: usize) -> BaseOp
+    requires { k < length (arithmetic_rows ++ (logic_rows ++ (moves_rows ++ (scalars_rows ++ loads_rows)))) }
+    ensures { drop k (arithmetic_rows ++ (logic_rows ++ (moves_rows ++ (scalars_rows ++ loads_rows)))) ≡ result ∷ drop (k + 1) (arithmetic_rows ++ (logic_rows ++ (moves_rows ++ (scalars_rows ++ loads_rows)))) }
+{
+    let first = arithmetic::count();
+    if k < first {
+        arithmetic::at(k)
+    } else {
+        from_logic(k - first)
     }
 }
 
-/// The row's result for the registers `a` and `b`, byte 0 lowest.
-#[tactic(auto, unfolding(crate::specs::Rows::row_of))]
-pub fn eval(op: BaseOp, a: &[u8; 16], b: &[u8; 16]) -> [u8; 16]
-    ensures { result ≡ row_of op a.now b.now }
+/// Row `k` of the groups from `logic` on.
+#[tactic(auto, using(row_names::proofs::Listed::in_first, row_names::proofs::Listed::behind_first))]
+fn from_logic(k: usize) -> BaseOp
+    requires { k < length (logic_rows ++ (moves_rows ++ (scalars_rows ++ loads_rows))) }
+    ensures { drop k (logic_rows ++ (moves_rows ++ (scalars_rows ++ loads_rows))) ≡ result ∷ drop (k + 1) (logic_rows ++ (moves_rows ++ (scalars_rows ++ loads_rows))) }
 {
-    map2::<1, 16, _>(a, b, &|x: u64, y: u64| on_lanes(op, x, y))
+    let first = logic::count();
+    if k < first {
+        logic::at(k)
+    } else {
+        from_moves(k - first)
+    }
+}
+
+/// Row `k` of the groups from `moves` on.
+#[tactic(auto, using(row_names::proofs::Listed::in_first, row_names::proofs::Listed::behind_first))]
+fn from_moves(k: usize) -> BaseOp
+    requires { k < length (moves_rows ++ (scalars_rows ++ loads_rows)) }
+    ensures { drop k (moves_rows ++ (scalars_rows ++ loads_rows)) ≡ result ∷ drop (k + 1) (moves_rows ++ (scalars_rows ++ loads_rows)) }
+{
+    let first = moves::count();
+    if k < first {
+        moves::at(k)
+    } else {
+        from_scalars(k - first)
+    }
+}
+
+/// Row `k` of the groups from `scalars` on.
+#[tactic(auto, using(row_names::proofs::Listed::in_first, row_names::proofs::Listed::behind_first))]
+fn from_scalars(k: usize) -> BaseOp
+    requires { k < length (scalars_rows ++ loads_rows) }
+    ensures { drop k (scalars_rows ++ loads_rows) ≡ result ∷ drop (k + 1) (scalars_rows ++ loads_rows) }
+{
+    let first = scalars::count();
+    if k < first {
+        scalars::at(k)
+    } else {
+        loads::at(k - first)
+    }
+}
+
+/// The row's name.
+pub fn name(op: BaseOp) -> &'static str
+    ensures { result.now ≡ name_of op }
+{
+    match op {
+        BaseOp::Arithmetic(row) => arithmetic::name(row),
+        BaseOp::Logic(row) => logic::name(row),
+        BaseOp::Moves(row) => moves::name(row),
+        BaseOp::Scalars(row) => scalars::name(row),
+        BaseOp::Loads(row) => loads::name(row),
+    }
+}
+
+/// The row's form, which says its signature, range, accesses and value.
+pub fn form(op: BaseOp) -> Form
+    ensures { result ≡ form_of op }
+{
+    match op {
+        BaseOp::Arithmetic(row) => arithmetic::form(row),
+        BaseOp::Logic(row) => logic::form(row),
+        BaseOp::Moves(row) => moves::form(row),
+        BaseOp::Scalars(row) => scalars::form(row),
+        BaseOp::Loads(row) => loads::form(row),
+    }
+}
+
+/// The row's value; of a storing row the register from which it stores.
+pub fn eval(op: BaseOp, args: &[Arg], imm: u16) -> Arg
+    ensures { result ≡ value_of (form_of op) args.now imm }
+{
+    intel_forms::value(form(op), args, imm)
 }

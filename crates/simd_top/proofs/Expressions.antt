@@ -3,9 +3,8 @@ use Rattle.std.proofs.Common.{◌≡◌, ℕ, List, [], ◌∷◌, Bool, true, f
 use Rattle.lane_core.specs.Register.{IsRegister}
 use Rattle.c_text.specs.declared.tokens.Dialect.TheVariants.{Neon}
 use Rattle.c_text.specs.declared.tokens.Place.{Place}
-use Rattle.intel_base.specs.declared.BaseOp.{BaseOp}
-use Rattle.intel_base.specs.declared.BaseOp.TheVariants.{AddEpi8, SubEpi8, AvgEpu8, MinEpu8, XorSi128}
-use Rattle.intel_base.specs.Rows as intel
+use Rattle.simd_top.specs.declared.rows.FormRow.{FormRow}
+use Rattle.simd_top.specs.declared.rows.FormRow.TheVariants.{AddEpi8, SubEpi8, AvgEpu8, MinEpu8, XorSi128}
 use Rattle.neon_lane.specs.Rows as neon
 use Rattle.neon_table.specs.Rows as neon_table
 use Rattle.c_tree.specs.declared.types.CType.{CType}
@@ -23,12 +22,12 @@ use Rattle.simd_top.specs.Rows.{intel_row, neon_name, moved_row}
 use Rattle.simd_top.specs.Form.{is_in, is_expression, is_kind, are_expressions}
 use Rattle.simd_top.specs.Written.{register, moved_call, moved_tree, moved_kind}
 use Rattle.simd_top.proofs.Conjunction.{split_and}
-use Rattle.simd_top.proofs.Values.{rows_same, row_register}
+use Rattle.simd_top.proofs.Values.{row_of, rows_same, row_register}
 
 -- the calls do the five rows, those of the source by Intel's table and those of the written unit by Arm's
 abbrev pub DoRows : Calls → Calls → Type 0
-DoRows c d = (f : List ℕ) (op : BaseOp) (a b : List ℕ) (s t : State) → intel_row f ≡ Some op →
-    (c f (Value.R16 a ∷ Value.R16 b ∷ []) s ≡ Done (Some (Value.R16 (intel.row_of op a b))) s)
+DoRows c d = (f : List ℕ) (op : FormRow) (a b : List ℕ) (s t : State) → intel_row f ≡ Some op →
+    (c f (Value.R16 a ∷ Value.R16 b ∷ []) s ≡ Done (Some (Value.R16 (row_of op a b))) s)
     × (d (neon_name (moved_row op)) (Value.R16 a ∷ Value.R16 b ∷ []) t ≡ Done (Some (Value.R16 (neon.row_of (moved_row op) a b))) t)
 
 -- both give the same register, and change nothing
@@ -56,9 +55,9 @@ two c f a b s v w h k = rw (h, k) refl
 -- what an expression of the form is: a parameter, or a row of two such expressions
 pub data IsOfForm (names : List (List ℕ)) (k : Kind) : Type 0 where
   IsParameter : (x : List ℕ) → is_in names x ≡ true → k ≡ Name x → IsOfForm names k
-  IsRow : (f : List ℕ) (op : BaseOp) (a b : Tree) → intel_row f ≡ Some op → is_expression names a ≡ true → is_expression names b ≡ true → k ≡ Call f (More a (More b NoTrees)) → IsOfForm names k
+  IsRow : (f : List ℕ) (op : FormRow) (a b : Tree) → intel_row f ≡ Some op → is_expression names a ≡ true → is_expression names b ≡ true → k ≡ Call f (More a (More b NoTrees)) → IsOfForm names k
 
-row_of_form : (names : List (List ℕ)) (f : List ℕ) (o : Option BaseOp) (a b : Tree) → o ≡ intel_row f → is_some o ≡ true → is_expression names a ≡ true → is_expression names b ≡ true → IsOfForm names (Call f (More a (More b NoTrees)))
+row_of_form : (names : List (List ℕ)) (f : List ℕ) (o : Option FormRow) (a b : Tree) → o ≡ intel_row f → is_some o ≡ true → is_expression names a ≡ true → is_expression names b ≡ true → IsOfForm names (Call f (More a (More b NoTrees)))
 row_of_form names f None a b e h k l = absurd (cc)
 row_of_form names f (Some op) a b e h k l = IsRow f op a b (sym e) k l refl
 
@@ -110,7 +109,7 @@ AreKnown names scope = (x : List ℕ) → is_in names x ≡ true → (constant :
 
 -- none is the name of a Neon row
 abbrev pub HasNoRow : {V : Type 0} → List (List ℕ × V) → Type 0
-HasNoRow all = (op : BaseOp) → named (neon_name (moved_row op)) all ≡ None
+HasNoRow all = (op : FormRow) → named (neon_name (moved_row op)) all ≡ None
 
 -- The expression `again` is read in place of e. With its types it is this one, which takes no address and gives the register that e gives.
 pub record Read (names : List (List ℕ)) (e again : Tree) (env : Env) : Type 0 where
@@ -125,7 +124,7 @@ name_typed : (x : List ℕ) (p : Place) (constant : Bool) (scope : Scope) (funct
     check_kind (Name x) p (seen scope functions here calls_none) ≡ Ok (Node p register (Name x))
 name_typed x p constant scope functions here calls_none h = rw h refl
 
-call_typed : (op : BaseOp) (p q r : Place) (k l : Kind) (a b : Tree) (scope : Scope) (functions : List (List ℕ × Callee)) (here : ℕ) (calls_none : Bool) →
+call_typed : (op : FormRow) (p q r : Place) (k l : Kind) (a b : Tree) (scope : Scope) (functions : List (List ℕ × Callee)) (here : ℕ) (calls_none : Bool) →
     named (neon_name (moved_row op)) scope ≡ None → named (neon_name (moved_row op)) functions ≡ None →
     check a (seen scope functions here calls_none) ≡ Ok (Node q register k) → check b (seen scope functions here calls_none) ≡ Ok (Node r register l) →
     check_kind (Call (neon_name (moved_row op)) (More a (More b NoTrees))) p (seen scope functions here calls_none)
@@ -152,7 +151,7 @@ parameter_read names x p q t u scope functions here calls_none knows is =
     }
 
 -- a row is read
-row_read : (names : List (List ℕ)) (f : List ℕ) (op : BaseOp) (a b again other : Tree) (p q : Place) (t u : CType) (scope : Scope) (functions : List (List ℕ × Callee)) (here : ℕ) (calls_none : Bool) →
+row_read : (names : List (List ℕ)) (f : List ℕ) (op : FormRow) (a b again other : Tree) (p q : Place) (t u : CType) (scope : Scope) (functions : List (List ℕ × Callee)) (here : ℕ) (calls_none : Bool) →
     HasNoRow scope → HasNoRow functions → intel_row f ≡ Some op → Read names a again (seen scope functions here calls_none) → Read names b other (seen scope functions here calls_none) →
     Read names (Node p t (Call f (More a (More b NoTrees)))) (Node q u (Call (neon_name (moved_row op)) (More again (More other NoTrees)))) (seen scope functions here calls_none)
 row_read names f op a b again other p q t u scope functions here calls_none no_scope no_function is x y = record {
@@ -166,7 +165,7 @@ row_read names f op a b again other p q t u scope functions here calls_none no_s
       let w = y.gives c d s t do_rows values in
       let done = do_rows f op v.register w.register s t is in
       record {
-        register = intel.row_of op v.register w.register;
+        register = row_of op v.register w.register;
         is_register = row_register op v.register w.register;
         first = two c f a b s v.register w.register v.first w.first ∙ done.0;
         second = two d (neon_name (moved_row op)) (Node x.place register x.kind) (Node y.place register y.kind) t v.register w.register v.second w.second ∙ done.1

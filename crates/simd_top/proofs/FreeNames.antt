@@ -5,8 +5,8 @@ use Rattle.std.specs.List.{starts_with}
 use Rattle.std.specs.Str.{bytes_eq}
 use Rattle.std.proofs.lemmas.Slice.Eq.{bytes_eq-Decides}
 use Rattle.c_text.specs.declared.tokens.Dialect.TheVariants.{X86, Neon}
-use Rattle.intel_base.specs.declared.BaseOp.{BaseOp}
-use Rattle.intel_base.specs.declared.BaseOp.TheVariants.{AddEpi8, SubEpi8, AvgEpu8, MinEpu8, XorSi128}
+use Rattle.simd_top.specs.declared.rows.FormRow.{FormRow}
+use Rattle.simd_top.specs.declared.rows.FormRow.TheVariants.{AddEpi8, SubEpi8, AvgEpu8, MinEpu8, XorSi128}
 use Rattle.neon_table.specs.Rows as neon_table
 use Rattle.object_types.specs.Reserved.{is_reserved, is_vector_type, is_predefined}
 use Rattle.vector_types.specs.Rows.{is_neon_row}
@@ -34,14 +34,14 @@ no_neon_row x free =
     let c = neither (begins || is_some (neon_table.find_of x)) (is_vector_type x) b.0 in
     (neither begins (is_some (neon_table.find_of x)) c.0).1
 
-intel_reserved : (op : BaseOp) → is_reserved X86 (is_neon_row (intel_name op)) (intel_name op) ≡ true
+intel_reserved : (op : FormRow) → is_reserved X86 (is_neon_row (intel_name op)) (intel_name op) ≡ true
 intel_reserved AddEpi8 = refl
 intel_reserved SubEpi8 = refl
 intel_reserved AvgEpu8 = refl
 intel_reserved MinEpu8 = refl
 intel_reserved XorSi128 = refl
 
-neon_reserved : (op : BaseOp) → is_reserved X86 (is_neon_row (neon_name (moved_row op))) (neon_name (moved_row op)) ≡ true
+neon_reserved : (op : FormRow) → is_reserved X86 (is_neon_row (neon_name (moved_row op))) (neon_name (moved_row op)) ≡ true
 unfolding neon_table.find_of
 neon_reserved AddEpi8 = refl
 neon_reserved SubEpi8 = refl
@@ -56,8 +56,8 @@ other_name x y h k = go (bytes_eq x y) refl
     go true e = let same = (bytes_eq-Decides x y).0 e in absurd (cc)
     go false e = e
 
-pub other_than_intel : (op : BaseOp) (x : List ℕ) → is_free x ≡ true → bytes_eq (intel_name op) x ≡ false
+pub other_than_intel : (op : FormRow) (x : List ℕ) → is_free x ≡ true → bytes_eq (intel_name op) x ≡ false
 other_than_intel op x free = other_name (intel_name op) x (intel_reserved op) (not_reserved x free)
 
-pub other_than_neon : (op : BaseOp) (x : List ℕ) → is_free x ≡ true → bytes_eq (neon_name (moved_row op)) x ≡ false
+pub other_than_neon : (op : FormRow) (x : List ℕ) → is_free x ≡ true → bytes_eq (neon_name (moved_row op)) x ≡ false
 other_than_neon op x free = other_name (neon_name (moved_row op)) x (neon_reserved op) (not_reserved x free)

@@ -10,8 +10,8 @@ use Rattle.c_tree.specs.Tree.{Object, Statement, Statements, Declare, Run, Block
 use Rattle.c_parse.specs.declared.symbols.Symbol.{Symbol}
 use Rattle.c_parse.specs.declared.symbols.Symbol.TheVariants as symbols
 use Rattle.c_parse.specs.Symbols.{name_symbol}
-use Rattle.intel_base.specs.declared.BaseOp.{BaseOp}
-use Rattle.intel_base.specs.declared.BaseOp.TheVariants.{AddEpi8, SubEpi8, AvgEpu8, MinEpu8, XorSi128}
+use Rattle.simd_top.specs.declared.rows.FormRow.{FormRow}
+use Rattle.simd_top.specs.declared.rows.FormRow.TheVariants.{AddEpi8, SubEpi8, AvgEpu8, MinEpu8, XorSi128}
 use Rattle.object_types.specs.Reserved.{is_reserved}
 use Rattle.vector_types.specs.Rows.{is_neon_row}
 use Rattle.scopes.specs.Scopes.{same_name}
@@ -56,7 +56,7 @@ good_among (y ∷ ys) x h e = go (same_name x y) refl (λ k. good_among ys x h.1
     go true s rest e = subst GoodName (sym ((bytes_eq-Decides x y).0 s)) h.0
     go false s rest e = rest e
 
-good_call : (f : List ℕ) (o : Option BaseOp) → is_some o ≡ true → GoodName (moved_call f o)
+good_call : (f : List ℕ) (o : Option FormRow) → is_some o ≡ true → GoodName (moved_call f o)
 good_call f None h = absurd (cc)
 good_call f (Some AddEpi8) h = record { named = refl; free = refl }
 good_call f (Some SubEpi8) h = record { named = refl; free = refl }

@@ -4,7 +4,7 @@ use Rattle.std.specs.Prelude.{find, nat_lt}
 use Rattle.std.specs.Str.{bytes_eq}
 use Rattle.std.proofs.lemmas.Bool.Decides.{nat_tests}
 use Rattle.c_text.specs.declared.tokens.Dialect.TheVariants.{X86, Neon}
-use Rattle.intel_base.specs.declared.BaseOp.{BaseOp}
+use Rattle.simd_top.specs.declared.rows.FormRow.{FormRow}
 use Rattle.c_tree.specs.Tree.{Definition, External, Function, Table}
 use Rattle.c_tree.specs.Same.{stripped_definition, stripped_external, Same}
 use Rattle.c_print.specs.Text.{text_of}
@@ -126,7 +126,7 @@ no_row_items names (Function f ∷ us) (Function g ∷ ws) i all h same none =
     no_row_items (names ++ f.name ∷ []) us ws (i + 1) (with_heading Neon i g all) a.1 rest
     (λ op. go op (ap (λ d. d.name) one) (free_name f (split_and (is_function f) (not (is_in names f.name)) a.0).0) (is_some (named g.name all)))
   where
-    go : (op : BaseOp) → g.name ≡ f.name → is_free f.name ≡ true → (v : Bool) → named (neon_name (moved_row op)) (cond v all (with_one i g all)) ≡ None
+    go : (op : FormRow) → g.name ≡ f.name → is_free f.name ≡ true → (v : Bool) → named (neon_name (moved_row op)) (cond v all (with_one i g all)) ≡ None
     go op name free true = none op
     go op name free false = rw (named_more (neon_name (moved_row op)) g.name (record { order = i; heading = function_heading Neon g }) all, none op, name, other_than_neon op f.name free) refl
 no_row_items names (Function f ∷ us) (Table d static ∷ ws) i all h same none = absurd (cc)

@@ -1,23 +1,39 @@
 -- The Neon row that stands for a row has its value.
 use Rattle.std.proofs.Common.{◌≡◌, ℕ, ◌+◌, ◌-◌, ◌/◌, ◌%◌, ◌^◌, ◌<◌, List, [], ◌∷◌, Bool, true, false, cond, Option, Some, None, refl, sym, ◌∙◌, ap, arith, inl, inr}
-use Rattle.std.specs.Prelude.{pos, ◌-ℤ◌, min, nat_le, codes, bytes_eq}
+use Rattle.std.specs.Prelude.{pos, ◌-ℤ◌, min, bit_xor, nat_le, codes, bytes_eq}
 use Rattle.std.proofs.lemmas.Int.{ints}
 use Rattle.std.proofs.lemmas.Slice.Eq.{bytes_eq-Decides}
 use Rattle.std.proofs.Math.Nat.{mod-mod}
 use Rattle.std.proofs.lemmas.Bool.Decides.{nat_tests}
 use Rattle.lane_core.specs.Register.{IsRegister, wrapped}
+use Rattle.lane_core.specs.Kernels.{map2_of}
 use Rattle.lane_core.proofs.Laws.{map2_same, IsRegister-map2}
 use Rattle.c_text.specs.declared.tokens.Dialect.TheVariants.{X86, Neon}
-use Rattle.intel_base.specs.declared.BaseOp.{BaseOp}
-use Rattle.intel_base.specs.declared.BaseOp.TheVariants.{AddEpi8, SubEpi8, AvgEpu8, MinEpu8, XorSi128}
-use Rattle.intel_base.specs.Rows as intel
+use Rattle.simd_top.specs.declared.rows.FormRow.{FormRow}
+use Rattle.simd_top.specs.declared.rows.FormRow.TheVariants.{AddEpi8, SubEpi8, AvgEpu8, MinEpu8, XorSi128}
 use Rattle.neon_lane.specs.Rows as neon
+use Rattle.row_names.specs.Groups.{first_named}
+use Rattle.intel_lanes.specs.Blocks.{lanes2}
+use Rattle.intel_base.specs.ArithmeticRows.{arithmetic_rows}
+use Rattle.intel_base.specs.LogicRows.{logic_rows}
 use Rattle.intel_table.specs.Rows as intel_table
 use Rattle.neon_table.specs.Rows as neon_table
 use Rattle.c_memory.specs.declared.value.Value.{Value}
 use Rattle.c_memory.specs.MeaningState.{State, Done}
 use Rattle.simd_top.specs.Ran.{rows}
 use Rattle.simd_top.specs.Rows.{intel_row, neon_name, moved_row}
+
+-- lane j of a row's result, of lanes j of a and b, in the words of Intel's Guide
+abbrev lane_of : FormRow → ℕ → ℕ → ℕ
+lane_of AddEpi8 x y = x + y
+lane_of SubEpi8 x y = wrapped 1 (pos x -ℤ pos y)
+lane_of AvgEpu8 x y = (x + y + 1) / 2 ^ 1
+lane_of MinEpu8 x y = min x y
+lane_of XorSi128 x y = bit_xor x y
+
+-- the row's result, for registers a and b
+unfoldable pub row_of : FormRow → List ℕ → List ℕ → List ℕ
+row_of op a b = map2_of 1 16 (lane_of op) a b
 
 difference : (x y : ℕ) → x < 256 → y < 256 → wrapped 1 (pos x -ℤ pos y) % 256 ≡ (x + (256 - y)) % 256
 unfolding wrapped
@@ -26,7 +42,7 @@ difference x y h k = grind (arith, ints)
 least : (x y : ℕ) → min x y % 256 ≡ cond (nat_le x y) x y % 256
 least x y = grind (arith, nat_tests)
 
-lanes_same : (op : BaseOp) (x y : ℕ) → x < 256 ^ 1 → y < 256 ^ 1 → intel.lane_of op x y % 256 ^ 1 ≡ neon.element_of (moved_row op) x y % 256 ^ 1
+lanes_same : (op : FormRow) (x y : ℕ) → x < 256 ^ 1 → y < 256 ^ 1 → lane_of op x y % 256 ^ 1 ≡ neon.element_of (moved_row op) x y % 256 ^ 1
 unfolding wrapped
 lanes_same AddEpi8 x y h k = refl
 lanes_same SubEpi8 x y h k = difference x y h k
@@ -34,16 +50,16 @@ lanes_same AvgEpu8 x y h k = sym (mod-mod ((x + y + 1) / 2) 256)
 lanes_same MinEpu8 x y h k = least x y
 lanes_same XorSi128 x y h k = refl
 
-pub rows_same : (op : BaseOp) (a b : List ℕ) → IsRegister 16 a → IsRegister 16 b → intel.row_of op a b ≡ neon.row_of (moved_row op) a b
-unfolding intel.row_of neon.row_of
-rows_same op a b h k = map2_same 1 16 (intel.lane_of op) (neon.element_of (moved_row op)) a b h.bytes k.bytes (lanes_same op)
+pub rows_same : (op : FormRow) (a b : List ℕ) → IsRegister 16 a → IsRegister 16 b → row_of op a b ≡ neon.row_of (moved_row op) a b
+unfolding row_of neon.row_of
+rows_same op a b h k = map2_same 1 16 (lane_of op) (neon.element_of (moved_row op)) a b h.bytes k.bytes (lanes_same op)
 
-pub row_register : (op : BaseOp) (a b : List ℕ) → IsRegister 16 (intel.row_of op a b)
-unfolding intel.row_of
-row_register op a b = IsRegister-map2 1 16 (intel.lane_of op) a b (inl refl) (inr (inl refl))
+pub row_register : (op : FormRow) (a b : List ℕ) → IsRegister 16 (row_of op a b)
+unfolding row_of
+row_register op a b = IsRegister-map2 1 16 (lane_of op) a b (inl refl) (inr (inl refl))
 
 -- the name of a row of the form, in the x86 dialect
-abbrev pub intel_name : BaseOp → List ℕ
+abbrev pub intel_name : FormRow → List ℕ
 intel_name AddEpi8 = codes "_mm_add_epi8"
 intel_name SubEpi8 = codes "_mm_sub_epi8"
 intel_name AvgEpu8 = codes "_mm_avg_epu8"
@@ -51,14 +67,14 @@ intel_name MinEpu8 = codes "_mm_min_epu8"
 intel_name XorSi128 = codes "_mm_xor_si128"
 
 -- one test in a row of tests
-tested : (f x : List ℕ) (a op : BaseOp) (rest : Option BaseOp) → x ≡ intel_name a → (rest ≡ Some op → f ≡ intel_name op) → cond (bytes_eq f x) (Some a) rest ≡ Some op → f ≡ intel_name op
+tested : (f x : List ℕ) (a op : FormRow) (rest : Option FormRow) → x ≡ intel_name a → (rest ≡ Some op → f ≡ intel_name op) → cond (bytes_eq f x) (Some a) rest ≡ Some op → f ≡ intel_name op
 tested f x a op rest is k h = go (bytes_eq f x) refl h
   where
     go : (v : Bool) → bytes_eq f x ≡ v → cond v (Some a) rest ≡ Some op → f ≡ intel_name op
     go true s e = let same : a ≡ op = cc in (bytes_eq-Decides f x).0 s ∙ is ∙ ap intel_name same
     go false s e = k e
 
-pub named : (f : List ℕ) (op : BaseOp) → intel_row f ≡ Some op → f ≡ intel_name op
+pub named : (f : List ℕ) (op : FormRow) → intel_row f ≡ Some op → f ≡ intel_name op
 named f op h =
     tested f (codes "_mm_add_epi8") AddEpi8 op _ refl
     (tested f (codes "_mm_sub_epi8") SubEpi8 op _ refl
@@ -67,9 +83,9 @@ named f op h =
     (tested f (codes "_mm_xor_si128") XorSi128 op None refl (λ e. absurd (cc)))))) h
 
 -- a call of the row, with two registers
-pub intel_call : (op : BaseOp) (a b : List ℕ) (s : State) →
-    rows X86 (intel_name op) (Value.R16 a ∷ Value.R16 b ∷ []) s ≡ Done (Some (Value.R16 (intel.row_of op a b))) s
-unfolding intel_table.find_of
+pub intel_call : (op : FormRow) (a b : List ℕ) (s : State) →
+    rows X86 (intel_name op) (Value.R16 a ∷ Value.R16 b ∷ []) s ≡ Done (Some (Value.R16 (row_of op a b))) s
+unfolding intel_table.find_of intel_table.base_rows first_named arithmetic_rows logic_rows lanes2 row_of
 intel_call AddEpi8 a b s = refl
 intel_call SubEpi8 a b s = refl
 intel_call AvgEpu8 a b s = refl
@@ -77,7 +93,7 @@ intel_call MinEpu8 a b s = refl
 intel_call XorSi128 a b s = refl
 
 -- and of the Neon row that stands for it
-pub neon_call : (op : BaseOp) (a b : List ℕ) (s : State) →
+pub neon_call : (op : FormRow) (a b : List ℕ) (s : State) →
     rows Neon (neon_name (moved_row op)) (Value.R16 a ∷ Value.R16 b ∷ []) s ≡ Done (Some (Value.R16 (neon.row_of (moved_row op) a b))) s
 unfolding neon_table.find_of
 neon_call AddEpi8 a b s = refl

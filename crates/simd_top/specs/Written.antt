@@ -5,7 +5,7 @@ use Rattle.lane_core.specs.declared.vector.NeonLane.TheVariants.{U8}
 use Rattle.c_tree.specs.declared.types.CType.{CType}
 use Rattle.c_tree.specs.declared.types.CType.TheVariants.{M128, Neon}
 use Rattle.c_tree.specs.Tree.{Tree, Kind, Trees, Node, Call, NoTrees, More, Object, Statement, Statements, Return, NoStatements, Then, Definition, External, Function, Table}
-use Rattle.intel_base.specs.declared.BaseOp.{BaseOp}
+use Rattle.simd_top.specs.declared.rows.FormRow.{FormRow}
 use Rattle.simd_top.specs.Rows.{intel_row, neon_name, moved_row}
 
 -- a register of 16 bytes, which each expression of the form is
@@ -18,7 +18,7 @@ moved_type M128 = register
 moved_type ty = ty
 
 -- the call of a Neon row stands for that of a row
-abbrev pub moved_call : List ℕ → Option BaseOp → List ℕ
+abbrev pub moved_call : List ℕ → Option FormRow → List ℕ
 moved_call f (Some op) = neon_name (moved_row op)
 moved_call f None = f
 

@@ -14,7 +14,7 @@ use Rattle.c_tree.specs.Tree.{Tree, Object, Statements, Definition, External}
 use Rattle.type_rules.specs.Types.{node_type, read_type, is_void_pointer, is_integer, is_zero, is_assignable, converted, assigned}
 use Rattle.type_rules.specs.Rules.{Assigned}
 use Rattle.scopes.specs.Scopes.{Env, Callee, named, is_declared_here, with_object}
-use Rattle.expression_types.specs.Check.{Checked, check}
+use Rattle.expression_types.specs.Check.{◌>>=◌, Checked, check}
 use Rattle.expression_types.specs.Typed.{IsArray, Typed}
 use Rattle.expression_types.proofs.Sound.{ok, after, becomes}
 use Rattle.object_types.specs.Reserved.{is_reserved}
@@ -129,7 +129,9 @@ module _ (types : (env : Env) (u v : Tree) → (check u env ≡ Ok v) ↔ Typed 
       let y = after (check_parameters rest inner) _ v x.goes in
       let q = lets (is_bare d) _ (check_object d env >>= λ w. Ok (without_length w)) x.first x.gives in
       let w = after (check_object d env) _ x.first q.1 in
-      becomes (λ z. TypedParameters env (d ∷ rest) (z ∷ y.first) → TypedParameters env (d ∷ rest) v) (without_length w.first) x.first w.goes (becomes (λ us. TypedParameters env (d ∷ rest) (x.first ∷ y.first) → TypedParameters env (d ∷ rest) us) _ v y.goes (λ t. t)) (t.one_parameter env d w.first rest y.first (bare-says d q.0) ((objects env d w.first).0 w.gives) (parameters-typed rest inner y.first y.gives))
+      becomes (TypedParameters env (d ∷ rest)) _ v y.goes
+      (becomes (λ z. TypedParameters (with_object z.name (known z.constant z.ty) env) rest y.first → TypedParameters env (d ∷ rest) (z ∷ y.first)) (without_length w.first) x.first w.goes
+      (λ others. t.one_parameter env d w.first rest y.first (bare-says d q.0) ((objects env d w.first).0 w.gives) others) (parameters-typed rest inner y.first y.gives))
 
   function-typed : (env : Env) (f v : Definition) → check_function f env ≡ Ok v → TypedFunction env f v
   function-typed env f v h =

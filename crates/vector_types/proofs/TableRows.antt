@@ -3,6 +3,7 @@ use mathlib.Core.Path.{fun_ext}
 use Rattle.std.proofs.Common.{◌≡◌, ◌∙◌, ℕ, Bool, true, false, if◌then◌else◌, List, [], ◌∷◌, ◌++◌, Option, Some, None, is_some, option_map, find, refl, sym, ap}
 use Rattle.std.specs.Cmp.Lexicographic.{bytes_decides}
 use Rattle.c_text.specs.declared.tokens.Dialect.TheVariants.{X86, Neon}
+use Rattle.row_names.specs.Groups.{first_named}
 use Rattle.intel_table.specs.Rows as intel
 use Rattle.neon_table.specs.declared.NeonOp.{NeonOp}
 use Rattle.neon_table.specs.Rows as neon
@@ -99,7 +100,7 @@ module _ {Op V : Type 0} (name_of : Op → List ℕ) (told : Op → V) where
 
 -- what the two tables find
 pub intel_found : (x : List ℕ) → row_of_table X86 x ≡ found intel.name_of (λ op. row_told (intel.signature_of op) (intel.range_of op)) x intel.rows
-unfolding intel.find_of
+unfolding intel.find_of first_named
 intel_found x = refl
 
 pub neon_found : (x : List ℕ) → row_of_table Neon x ≡ found neon.name_of (λ op. row_told (neon.signature_of op) (neon.range_of op)) x neon.rows

@@ -1,0 +1,9 @@
+use Rattle.std.proofs.Common.{refl}
+use Rattle.row_names.specs.Groups.{first_named}
+use Rattle.intel_base.specs.Named.{name_of}
+use Rattle.intel_base.specs.ScalarsRows.{scalars_rows}
+use Rattle.intel_base.proofs.scalars.find.Goals as goal
+
+pub returns : goal.returns
+unfolding first_named scalars_rows
+returns c = c.row_named.ensures name_of refl

@@ -1,9 +1,0 @@
-use Rattle.std.proofs.Common.{◌∙◌, sym}
-use Rattle.std.proofs.lemmas.List.{length-map}
-use Rattle.intel_sse2.specs.Rows as part
-use Rattle.intel_rows.specs.Rows.{of_base, base_rows}
-use Rattle.intel_rows.proofs.base_count.Goals as goal
-
-pub returns-clause-value : goal.returns-clause-value
-unfolding base_rows
-returns-clause-value c = c.count.ensures.value ∙ sym (length-map part.rows of_base)

@@ -1,9 +1,0 @@
-use Rattle.std.proofs.Common.{refl}
-use Rattle.row_names.specs.Groups.{first_named}
-use Rattle.intel_sse2.specs.Named.{name_of}
-use Rattle.intel_sse2.specs.LoadsRows.{loads_rows}
-use Rattle.intel_sse2.proofs.loads.find.Goals as goal
-
-pub returns : goal.returns
-unfolding first_named loads_rows
-returns c = c.row_named.ensures name_of refl
