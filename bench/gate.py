@@ -30,9 +30,7 @@ def processes(session):
         except OSError:
             continue
         crate = words[words.index("--crate-name") + 1] if "--crate-name" in words else "(none)"
-        kind = "other"
-        if "check" in words[1:2]:
-            kind = "edits" if "rt-edit-" in folder else "tests" if "--test" in words else "proofs"
+        kind = "edits" if "rt-edit-" in folder else "tests" if "--test" in words else "proofs" if words[1:2] in (["check"], ["build"]) else "other"
         yield (name, fields[19]), crate, kind, (int(fields[11]) + int(fields[12])) / TICKS
 
 
