@@ -17,7 +17,7 @@ use Rattle.type_rules.specs.Passing.{passed, immediate_of}
 use Rattle.expression_types.specs.Marks.{short}
 use Rattle.const_imm.specs.Sizes.{size_of}
 use Rattle.object_types.specs.Reserved.{is_reserved}
-use Rattle.object_types.specs.Objects.{known as known_object, is_object_type, is_array, new_name, unfit, count_of, is_alignment, alignment_of, alignment, is_small, small, is_room, is_member, member, members, count_all, element_of, number_of, is_open, with_number, Length, length_of, stands_before, aligned, closed_type, small_once, value_fits, number_for, is_no_trees, counted, start, declared_type, behind_declarator, behind_name, check_object}
+use Rattle.object_types.specs.Objects.{known as known_object, is_object_type, is_array, new_name, unfit, count_of, is_alignment, alignment_of, alignment, is_small, small, is_room, is_member, member, members, count_all, element_of, number_of, is_open, with_number, Length, length_of, aligned, closed_type, small_once, value_fits, number_for, is_no_trees, counted, start, declared_type, behind_declarator, behind_name, check_object}
 use Rattle.statement_types.specs.Statements.{Around, inside, looped, with_objects, check_objects, scalar, condition, maybe_condition, maybe_expression, returned_value, returned, in_a_loop, beyond, beyond_optional, around, check_statement, check_optional, check_statements}
 use Rattle.order_rule.specs.Callees.{Before, Callees}
 use Rattle.order_rule.specs.Full.{full_expressions, first_broken, refusal}
