@@ -107,10 +107,15 @@ void f()() -> none";
 // The only item of a text. None where the text is refused, or has no item or several.
 fn only_item(alloc: Global, dialect: Dialect, text: &str) -> Result<Option<Item>, Fail> {
     let tokens = tokens_of(alloc, text)?;
-    match parse(alloc, tokens.as_slice(), dialect) {
-        Ok(mut unit) if unit.items.len() == 1 => Ok(unit.items.pop()),
-        Ok(_) | Err(Refused::Refused(_)) => Ok(None),
-        Err(Refused::Memory) => Err("memory".into()),
+    let mut unit = match parse(alloc, tokens.as_slice(), dialect) {
+        Ok(unit) => unit,
+        Err(Refused::Refused(_refusal)) => return Ok(None),
+        Err(Refused::Memory) => return Err("memory".into()),
+    };
+    if unit.items.len() == 1 {
+        Ok(unit.items.pop())
+    } else {
+        Ok(None)
     }
 }
 
@@ -142,7 +147,8 @@ fn shown_object(alloc: Global, dialect: Dialect, text: &str) -> Result<Vec<u8>, 
             put(&mut out, if is_static { "static " } else { "" })?;
             show_object(alloc, &mut out, &object)?;
         }
-        _ => put(&mut out, "none")?,
+        Some(Item::Function(_function)) => put(&mut out, "none")?,
+        None => put(&mut out, "none")?,
     }
     Ok(out)
 }

@@ -1,8 +1,8 @@
 //! Uses of macros, and what they expand to.
 
-use crate::reading::put;
+use crate::reading::{put, tokens_of};
 use c_macros::{Macro, Macros, Made, Piece, expand_in};
-use c_text::{Fail as Refused, Place, Text, Token, TokenKind, lex};
+use c_text::{Fail as Refused, Place, Text, Token, TokenKind};
 use std::alloc::{AllocError, Global};
 use std::test::Fail;
 
@@ -38,13 +38,6 @@ W=1 2 3 4 5 6 7 8 9 0 : W W W W W W W W -> 1 2 3 4 5 6 7 8 9 0 1 2 3 4 5 6 7 8 9
 W=1 2 3 4 5 6 7 8 9 0 : W W W W W W W W W W -> 20 1:19 W
 F(x)=x x x x x x x x x x;W=1 2 3 4 5 6 7 8 9 0 : F(W) -> 20 1:1 F
 F(x)=x;W=1 2 3 4 5 6 7 8 9 0 : W F(W W W W W W W W W) -> 20 1:3 F";
-
-fn tokens_of(alloc: Global, text: &str) -> Result<Vec<Token>, Fail> {
-    match lex(alloc, text.as_bytes()) {
-        Ok(tokens) => Ok(tokens),
-        Err(_) => Err("no tokens".into()),
-    }
-}
 
 fn number_of(parameters: &[Text], token: &Token) -> Option<usize> {
     parameters
@@ -97,6 +90,21 @@ fn define(alloc: Global, macros: &mut Macros, text: &str) -> Result<(), Fail> {
     Ok(())
 }
 
+// The tokens that are made.
+fn made_of<'a>(
+    alloc: Global,
+    macros: &'a Macros,
+    tokens: &'a [Token],
+) -> Result<Vec<Token>, Refused> {
+    let mut uses = Vec::new(alloc);
+    let mut made = Made {
+        tokens: Vec::new(alloc),
+        work: 0,
+    };
+    expand_in(alloc, 100, macros, 4, &mut uses, None, tokens, &mut made)?;
+    Ok(made.tokens)
+}
+
 // The tokens that are made, with spaces between them, or the refusal.
 fn expanded(alloc: Global, definitions: &str, text: &str) -> Result<Vec<u8>, Fail> {
     let mut macros = Macros::new(alloc);
@@ -104,15 +112,10 @@ fn expanded(alloc: Global, definitions: &str, text: &str) -> Result<Vec<u8>, Fai
         define(alloc, &mut macros, definition)?;
     }
     let tokens = tokens_of(alloc, text)?;
-    let mut uses = Vec::new(alloc);
-    let mut made = Made {
-        tokens: Vec::new(alloc),
-        work: 0,
-    };
     let mut out = Vec::new(alloc);
-    match expand_in(alloc, 100, &macros, 4, &mut uses, None, &tokens, &mut made) {
-        Ok(()) => {
-            for (i, token) in made.tokens.iter().enumerate() {
+    match made_of(alloc, &macros, tokens.as_slice()) {
+        Ok(made) => {
+            for (i, token) in made.iter().enumerate() {
                 if i > 0 {
                     out.push(b' ')?;
                 }

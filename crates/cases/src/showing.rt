@@ -297,14 +297,14 @@ fn show_simple(alloc: Global, out: &mut Vec<u8>, s: &Stmt) -> Result<(), AllocEr
     put(out, ";")
 }
 
-#[cycle(showing)]
+#[cycle(showing_statements)]
 fn show_body(alloc: Global, out: &mut Vec<u8>, body: &Stmt) -> Result<(), AllocError> {
     put(out, " [")?;
     show_stmt(alloc, out, body)?;
     put(out, "]")
 }
 
-#[cycle(showing)]
+#[cycle(showing_statements)]
 fn show_stmts(alloc: Global, out: &mut Vec<u8>, all: &[Stmt]) -> Result<(), AllocError> {
     let mut before = "";
     for s in all {
@@ -315,7 +315,7 @@ fn show_stmts(alloc: Global, out: &mut Vec<u8>, all: &[Stmt]) -> Result<(), Allo
     Ok(())
 }
 
-#[cycle(showing)]
+#[cycle(showing_statements)]
 fn show_loop(alloc: Global, out: &mut Vec<u8>, s: &Stmt) -> Result<(), AllocError> {
     match s {
         Stmt::While(c, body) => {
@@ -347,7 +347,7 @@ fn show_loop(alloc: Global, out: &mut Vec<u8>, s: &Stmt) -> Result<(), AllocErro
     }
 }
 
-#[cycle(showing)]
+#[cycle(showing_statements)]
 fn show_stmt(alloc: Global, out: &mut Vec<u8>, s: &Stmt) -> Result<(), AllocError> {
     match s {
         Stmt::Block(all) => {
