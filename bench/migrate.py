@@ -21,13 +21,15 @@ def deep(quarters):
     return INCLUDE + "".join(DEEP % i for i in range(135 * quarters))
 
 
-def seconds(command, path):
+def seconds(command, path, passes=(0,)):
     best = None
     for _ in range(5):
         start = time.monotonic()
         with open(path) as file:
-            subprocess.run(command, stdin=file, stdout=subprocess.DEVNULL, check=True)
+            code = subprocess.run(command, stdin=file, stdout=subprocess.DEVNULL).returncode
         took = time.monotonic() - start
+        if code not in passes:
+            raise SystemExit(f"{command[0]} ended with {code}")
         best = took if best is None else min(best, took)
     return best
 

@@ -5,7 +5,9 @@ It makes units of the x86 dialect that pass the check: reads of a scalar table i
 one part, that steps 12,500 and 50,000 variables. `simdmove run` reads and checks each, and runs it for no turn. For each it prints the seconds
 (the least of five runs), those of `gcc -fsyntax-only` on the same file with their ratio, and how the tool's time grows (4 is linear).
 """
-import os, subprocess, tempfile, time
+import os, subprocess, tempfile
+
+from migrate import seconds
 
 DIGITS = "abcdefghijklmnopqrstuvwxyz0123456789"
 PARAMETERS = 127
@@ -32,19 +34,6 @@ def steps(n):
         parts = ["g(" + ",".join(group + ["0"] * (PARAMETERS - len(group))) + ")" for group in groups]
     g = "static int g(" + ",".join("int p%d" % i for i in range(PARAMETERS)) + ") { return p0; }\n"
     return g + "int f(int x) { int " + ",".join(names) + "; return " + parts[0] + "; }\n"
-
-
-def seconds(command, path, passes):
-    best = None
-    for _ in range(5):
-        start = time.monotonic()
-        with open(path) as file:
-            code = subprocess.run(command, stdin=file, stdout=subprocess.DEVNULL).returncode
-        took = time.monotonic() - start
-        if code not in passes:
-            raise SystemExit(f"{command[0]} ended with {code}")
-        best = took if best is None else min(best, took)
-    return best
 
 
 def main():
