@@ -31,7 +31,8 @@ no_tokens (t ∷ ts) h = absurd (omega (arith, h))
 pub unlinked_end : (k : ℕ) (all : List Token) → all ≡ [] → goes_on k (first_link all) ≡ false
 unlinked_end k all e = ap (λ x. goes_on k (first_link x)) e
 
-pub unlinked_infix : (k l : ℕ) (op : Infix) (t : Token) (ts all : List Token) → all ≡ t ∷ ts → links.Infix l op ≡ link_of t → l < k → goes_on k (first_link all) ≡ false
+pub unlinked_infix : (k l : ℕ) (op : Infix) (t : Token) (ts all : List Token) → all ≡ t ∷ ts → links.Infix l op ≡ link_of t → l < k →
+    goes_on k (first_link all) ≡ false
 unlinked_infix k l op t ts all e h g = ap (λ x. goes_on k (first_link x)) e ∙ sym (ap (goes_on k) h) ∙ lt-leb k l g
 
 pub unlinked_question : (k : ℕ) (t : Token) (ts all : List Token) → all ≡ t ∷ ts → links.Question ≡ link_of t → (k ≡ 0 → ⊥) → goes_on k (first_link all) ≡ false

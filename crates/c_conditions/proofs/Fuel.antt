@@ -1,5 +1,6 @@
 -- A goal is read in the same way however many steps it may take, where they are enough.
-use Rattle.std.proofs.Common.{◌≡◌, ◌∙◌, ℕ, zero, suc, ◌+◌, ◌-◌, ◌*◌, ◌≤◌, ◌==◌, nat_lt, Bool, true, false, cond, List, [], ◌∷◌, length, codes, Option, Some, None, option_and_then, ◌<◌, refl, ap, arith}
+use Rattle.std.proofs.Common.{◌≡◌, ◌∙◌, ℕ, zero, suc, ◌+◌, ◌-◌, ◌*◌, ◌≤◌, ◌==◌, nat_lt, Bool, true, false, cond, List, [], ◌∷◌, length, codes, Option, Some}
+use Rattle.std.proofs.Common.{None, option_and_then, ◌<◌, refl, ap, arith}
 use Rattle.std.proofs.lemmas.Bool.{ltb-true}
 use Rattle.c_text.specs.declared.tokens.Token.{Token}
 use Rattle.c_conditions.specs.declared.worths.Worth.{Worth}
@@ -10,7 +11,8 @@ use Rattle.c_conditions.specs.declared.signs.Start.{Start}
 use Rattle.c_conditions.specs.declared.signs.Start.TheVariants as starts
 use Rattle.c_conditions.specs.Worths.{joined, operated_before, chosen}
 use Rattle.c_conditions.specs.Signs.{is_mark, link_of, start}
-use Rattle.c_conditions.specs.Value.{Goal, Level, More, Read, Reader, and_read, after_mark, behind_mark, begun, unary, choice, joint, linked, level, read_step, read_in, read}
+use Rattle.c_conditions.specs.Value.{Goal, Level, More, Read, Reader, and_read, after_mark, behind_mark, begun, unary, choice, joint, linked, level}
+use Rattle.c_conditions.specs.Value.{read_step, read_in, read}
 
 -- no more tokens than these are left
 abbrev pub Within : ℕ → Read → Type 0
@@ -21,7 +23,8 @@ within_more : (n m : ℕ) (r : Read) → n ≤ m → Within n r → Within m r
 within_more n m None h w = tt
 within_more n m (Some (v, ts)) h w = omega (arith, h, w)
 
-within_then : (n : ℕ) (r : Read) (f : Worth → List Token → Read) → Within n r → ((v : Worth) (ts : List Token) → length ts ≤ n → Within n (f v ts)) → Within n (and_read r f)
+within_then : (n : ℕ) (r : Read) (f : Worth → List Token → Read) → Within n r → ((v : Worth) (ts : List Token) → length ts ≤ n → Within n (f v ts)) →
+    Within n (and_read r f)
 within_then n None f w h = tt
 within_then n (Some (v, ts)) f w h = h v ts w
 
@@ -38,7 +41,8 @@ cut : (text : List ℕ) (n : ℕ) (ts : List Token) → length ts ≤ n → Cut 
 cut text n [] h = tt
 cut text n (t ∷ ts) h = cut_by (is_mark text t) n ts h
 
-cut_within : (n : ℕ) (o : Option (List Token)) (f : List Token → Read) → Cut n o → ((us : List Token) → length us ≤ n → Within n (f us)) → Within n (option_and_then f o)
+cut_within : (n : ℕ) (o : Option (List Token)) (f : List Token → Read) → Cut n o → ((us : List Token) → length us ≤ n → Within n (f us)) →
+    Within n (option_and_then f o)
 cut_within n None f c h = tt
 cut_within n (Some ts) f c h = h ts c
 
@@ -69,7 +73,8 @@ choice_within go sh true c t ts =
     behind_within (length ts) (codes ":") rest _ h (λ us k.
     within_then (length ts) (go (Level 0) us) _ (within_more (length us) (length ts) (go (Level 0) us) k (sh (Level 0) us)) (λ b end e. e))))
 
-joint_within : (go : Reader) → Shrinks go → (b : Bool) (k : ℕ) (op : Infix) (a : Worth) (t : Token) (ts : List Token) → Within (length (t ∷ ts)) (joint b k op a t ts go)
+joint_within : (go : Reader) → Shrinks go → (b : Bool) (k : ℕ) (op : Infix) (a : Worth) (t : Token) (ts : List Token) →
+    Within (length (t ∷ ts)) (joint b k op a t ts go)
 joint_within go sh false k op a t ts = omega arith
 joint_within go sh true k op a t ts =
     within_more (length ts) (length (t ∷ ts)) (joint true k op a t ts go) (omega arith)
@@ -83,7 +88,8 @@ linked_within go sh k v (links.Infix l op) t ts = joint_within go sh (l == k) k 
 
 level_within : (go : Reader) → Shrinks go → (b : Bool) (k : ℕ) (ts : List Token) → Within (length ts) (level b k ts go)
 level_within go sh true k ts =
-    within_then (length ts) (go (Level (k + 1)) ts) _ (sh (Level (k + 1)) ts) (λ v rest h. within_more (length rest) (length ts) (go (More k v) rest) h (sh (More k v) rest))
+    within_then (length ts) (go (Level (k + 1)) ts) _ (sh (Level (k + 1)) ts) (λ v rest h.
+    within_more (length rest) (length ts) (go (More k v) rest) h (sh (More k v) rest))
 level_within go sh false k ts = unary_within go sh ts
 
 step_within : (go : Reader) → Shrinks go → Shrinks (read_step go)
@@ -104,11 +110,13 @@ size (More k v) ts = 12 * length ts + 1
 abbrev Agree : ℕ → Reader → Reader → Type 0
 Agree n f g = (h : Goal) (ts : List Token) → size h ts ≤ n → f h ts ≡ g h ts
 
-then_same : (n : ℕ) (r : Read) (f g : Worth → List Token → Read) → Within n r → ((v : Worth) (ts : List Token) → length ts ≤ n → f v ts ≡ g v ts) → and_read r f ≡ and_read r g
+then_same : (n : ℕ) (r : Read) (f g : Worth → List Token → Read) → Within n r → ((v : Worth) (ts : List Token) → length ts ≤ n → f v ts ≡ g v ts) →
+    and_read r f ≡ and_read r g
 then_same n None f g w h = refl
 then_same n (Some (v, ts)) f g w h = h v ts w
 
-cut_same : (n : ℕ) (o : Option (List Token)) (f g : List Token → Read) → Cut n o → ((us : List Token) → length us ≤ n → f us ≡ g us) → option_and_then f o ≡ option_and_then g o
+cut_same : (n : ℕ) (o : Option (List Token)) (f g : List Token → Read) → Cut n o → ((us : List Token) → length us ≤ n → f us ≡ g us) →
+    option_and_then f o ≡ option_and_then g o
 cut_same n None f g c h = refl
 cut_same n (Some ts) f g c h = h ts c
 
@@ -131,11 +139,14 @@ module _ (n : ℕ) (f g : Reader) (sh : Shrinks g) (same : Agree n f g) where
   choice_same : (b : Bool) (c : Worth) (t : Token) (ts : List Token) → 12 * length ts + 12 ≤ n → choice b c t ts f ≡ choice b c t ts g
   choice_same false c t ts h = refl
   choice_same true c t ts h =
-      ap (λ r. and_read r (λ a rest. behind_mark (codes ":") rest (λ after. and_read (f (Level 0) after) (λ b end. Some (chosen c a b, end))))) (same (Level 0) ts (omega (arith, h))) ∙
+      ap (λ r. and_read r (λ a rest. behind_mark (codes ":") rest (λ after. and_read (f (Level 0) after) (λ b end. Some (chosen c a b, end)))))
+      (same (Level 0) ts (omega (arith, h))) ∙
       then_same (length ts) (g (Level 0) ts) _ _ (sh (Level 0) ts) (λ a rest l.
-      behind_same (length ts) (codes ":") rest _ _ l (λ us k. ap (λ r. and_read r (λ b end. Some (chosen c a b, end))) (same (Level 0) us (omega (arith, h, k)))))
+      behind_same (length ts) (codes ":") rest _ _ l (λ us k.
+      ap (λ r. and_read r (λ b end. Some (chosen c a b, end))) (same (Level 0) us (omega (arith, h, k)))))
 
-  joint_same : (b : Bool) (k : ℕ) (op : Infix) (a : Worth) (t : Token) (ts : List Token) → 12 * length ts + 12 ≤ n → joint b k op a t ts f ≡ joint b k op a t ts g
+  joint_same : (b : Bool) (k : ℕ) (op : Infix) (a : Worth) (t : Token) (ts : List Token) → 12 * length ts + 12 ≤ n →
+      joint b k op a t ts f ≡ joint b k op a t ts g
   joint_same false k op a t ts h = refl
   joint_same true k op a t ts h =
       ap (λ r. and_read r (λ b rest. f (More k (joined op a b)) rest)) (same (Level (k + 1)) ts (omega (arith, h))) ∙

@@ -1,5 +1,6 @@
 -- How an expression of a level is read, from its first unary expression on.
-use Rattle.std.proofs.Common.{◌≡◌, ◌∙◌, ℕ, zero, suc, ◌+◌, ◌-◌, ◌*◌, ◌≤◌, ◌<◌, ◌==◌, nat_lt, Bool, true, false, cond, List, [], ◌∷◌, length, codes, Option, Some, None, unwrap_or, option_and_then, bytes_eq, refl, ap, sym, subst, arith}
+use Rattle.std.proofs.Common.{◌≡◌, ◌∙◌, ℕ, zero, suc, ◌+◌, ◌-◌, ◌*◌, ◌≤◌, ◌<◌, ◌==◌, nat_lt, Bool, true, false, cond, List, [], ◌∷◌, length, Option}
+use Rattle.std.proofs.Common.{Some, None, unwrap_or, option_and_then, bytes_eq, refl, ap, sym, subst, arith}
 use Rattle.std.proofs.lemmas.Bool.{ltb-false, lt-ltb, le-ltb, leb-false, lt-leb, eq-eqb, eqb-true, eqb-false}
 use Rattle.std.specs.Map.{lookup}
 use Rattle.c_text.specs.declared.tokens.TokenKind.{TokenKind}
@@ -9,11 +10,12 @@ use Rattle.c_conditions.specs.declared.worths.Worth.{Worth}
 use Rattle.c_conditions.specs.declared.signs.Infix.{Infix}
 use Rattle.c_conditions.specs.declared.signs.Link.{Link}
 use Rattle.c_conditions.specs.declared.signs.Link.TheVariants as links
+use Rattle.c_conditions.specs.declared.reading.Pending.TheVariants as pending
 use Rattle.c_conditions.specs.Worths.{joined, chosen}
 use Rattle.c_conditions.specs.Signs.{links_by_mark, link_by, link_of}
 use Rattle.c_conditions.specs.Levels.{IsLow, goes_on, first_link}
-use Rattle.c_conditions.specs.Value.{Goal, Level, More, Read, Reader, and_read, behind_mark, unary, choice, joint, linked, level, read_step, read_in, read}
-use Rattle.c_conditions.specs.Stack.{levels, behind_operand}
+use Rattle.c_conditions.specs.Value.{Goal, Level, More, Read, Reader, and_read, unary, choice, joint, linked, level, read_step, read_in, read}
+use Rattle.c_conditions.specs.Stack.{levels, behind_operand, around}
 use Rattle.c_conditions.proofs.Fuel.{read-step}
 
 -- both are the same, where both are read behind the same
@@ -112,7 +114,8 @@ abbrev Stopped : ℕ → Read → Type 0
 Stopped k None = Unit {0}
 Stopped k (Some (v, ts)) = goes_on k (first_link ts) ≡ false
 
-stopped_then : (k l : ℕ) (r : Read) (f : Worth → List Token → Read) → Stopped l r → ((v : Worth) (ts : List Token) → goes_on l (first_link ts) ≡ false → Stopped k (f v ts)) →
+stopped_then : (k l : ℕ) (r : Read) (f : Worth → List Token → Read) → Stopped l r →
+    ((v : Worth) (ts : List Token) → goes_on l (first_link ts) ≡ false → Stopped k (f v ts)) →
     Stopped k (and_read r f)
 stopped_then k l None f s h = tt
 stopped_then k l (Some (v, ts)) f s h = h v ts s
@@ -152,7 +155,8 @@ module _ (go : Reader) (stops : Stops go) where
       stopped_cut 0 _ _ (λ after.
       stopped_then 0 0 (go (Level 0) after) _ (stops (Level 0) after tt) (λ b end h. h))))
 
-  joint_stops : (b : Bool) (k l : ℕ) (op : Infix) (v : Worth) (t : Token) (ts : List Token) → (l == k) ≡ b → link_of t ≡ links.Infix l op → goes_on (k + 1) (link_of t) ≡ false →
+  joint_stops : (b : Bool) (k l : ℕ) (op : Infix) (v : Worth) (t : Token) (ts : List Token) → (l == k) ≡ b → link_of t ≡ links.Infix l op →
+      goes_on (k + 1) (link_of t) ≡ false →
       Stopped k (joint b k op v t ts go)
   joint_stops true k l op v t ts e i h =
       stopped_then k (k + 1) (go (Level (k + 1)) ts) _ (stops (Level (k + 1)) ts tt) (λ w rest g. stops (More k (joined op v w)) rest g)
@@ -161,7 +165,8 @@ module _ (go : Reader) (stops : Stops go) where
         below : l < k + 1 → (l ≡ k → ⊥) → l < k
         below h n = omega (arith, h, n)
 
-  linked_stops : (k : ℕ) (v : Worth) (l : Link) (t : Token) (ts : List Token) → link_of t ≡ l → goes_on (k + 1) (link_of t) ≡ false → Stopped k (linked k v l t ts go)
+  linked_stops : (k : ℕ) (v : Worth) (l : Link) (t : Token) (ts : List Token) → link_of t ≡ l → goes_on (k + 1) (link_of t) ≡ false →
+      Stopped k (linked k v l t ts go)
   linked_stops k v links.Nothing t ts e h = ap (goes_on k) e
   linked_stops k v links.Question t ts e h = choice_stops (k == 0) k v t ts refl e
   linked_stops k v (links.Infix l op) t ts e h = joint_stops (l == k) k l op v t ts refl e h
@@ -184,7 +189,8 @@ unfolding read
 level_stopped k ts = in_stops (12 * (length ts + 1)) (Level k) ts tt
 
 -- both are the same behind what is read of a level, where they are so where nothing goes on at it
-stopped_same : (k : ℕ) (r : Read) (f g : Worth → List Token → Read) → Stopped k r → ((v : Worth) (ts : List Token) → goes_on k (first_link ts) ≡ false → f v ts ≡ g v ts) →
+stopped_same : (k : ℕ) (r : Read) (f g : Worth → List Token → Read) → Stopped k r →
+    ((v : Worth) (ts : List Token) → goes_on k (first_link ts) ≡ false → f v ts ≡ g v ts) →
     and_read r f ≡ and_read r g
 stopped_same k None f g s h = refl
 stopped_same k (Some (v, ts)) f g s h = h v ts s
@@ -230,8 +236,7 @@ cut_same None f g h = refl
 cut_same (Some ts) f g h = h ts
 
 takes_question : (d : ℕ) (c : Worth) (t : Token) (ts : List Token) → link_of t ≡ links.Question →
-    levels (suc d) 0 c (t ∷ ts) ≡
-    and_read (read (Level 0) ts) (λ a rest. behind_mark (codes ":") rest (λ after. and_read (read (Level 0) after) (λ b end. behind_operand 0 (chosen c a b) end)))
+    levels (suc d) 0 c (t ∷ ts) ≡ around (pending.Condition c) (read (Level 0) ts)
 takes_question d c t ts e =
     ap (λ r. and_read r (λ w rest. read (More 0 w) rest)) (stays d (0 + 1) c (t ∷ ts) (ap (goes_on (0 + 1)) e ∙ lt-leb (0 + 1) 0 (omega arith))) ∙
     read-step (More 0 c) (t ∷ ts) ∙ ap (λ l. linked 0 c l t ts read) e ∙
@@ -240,6 +245,5 @@ takes_question d c t ts e =
     stopped_same 0 (read (Level 0) after) _ _ (level_stopped 0 after) (λ b end h. sym (stays (11 - 0) 0 (chosen c a b) end h))))
 
 pub takes-question : (c : Worth) (t : Token) (ts : List Token) → link_of t ≡ links.Question →
-    behind_operand 0 c (t ∷ ts) ≡
-    and_read (read (Level 0) ts) (λ a rest. behind_mark (codes ":") rest (λ after. and_read (read (Level 0) after) (λ b end. behind_operand 0 (chosen c a b) end)))
+    behind_operand 0 c (t ∷ ts) ≡ around (pending.Condition c) (read (Level 0) ts)
 takes-question c t ts e = takes_question 10 c t ts e

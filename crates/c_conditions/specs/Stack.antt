@@ -24,13 +24,16 @@ abbrev pub left : ℕ → Option Worth → List Token → Read
 left k None ts = read (Level k) ts
 left k (Some v) ts = behind_operand k v ts
 
+-- what is read behind the `:` of a choice
+abbrev pub last : Worth → Worth → List Token → Read
+last c a ts = and_read (read (Level 0) ts) (λ b rest. behind_operand 0 (chosen c a b) rest)
+
 -- what is read around a part, where this is read of the part
 abbrev pub around : Pending → Read → Read
 around (pending.Joint outside op a) r = and_read r (λ b rest. behind_operand outside (joined op a b) rest)
 around (pending.Prefix outside op) r = and_read r (λ v rest. behind_operand outside (operated_before op v) rest)
 around (pending.Bracket outside) r = and_read r (λ v rest. behind_mark (codes ")") rest (λ after. behind_operand outside v after))
-around (pending.Condition c) r =
-    and_read r (λ a rest. behind_mark (codes ":") rest (λ after. and_read (read (Level 0) after) (λ b end. behind_operand 0 (chosen c a b) end)))
+around (pending.Condition c) r = and_read r (λ a rest. behind_mark (codes ":") rest (λ after. last c a after))
 around (pending.Choice c a) r = and_read r (λ b rest. behind_operand 0 (chosen c a b) rest)
 
 -- what is read of all, where this is read of the innermost part: the outermost stands first

@@ -1,7 +1,8 @@
 -- The value of the expression of an `#if` or `#elif` line, whose `defined`s are replaced and whose macros are expanded (C11 6.10.1). It is a constant
 -- expression without assignments, commas, steps, calls and casts (6.6p3), so these productions of 6.5 are left: a primary expression, a unary expression, the
 -- ten levels of operators between operands, and the conditional expression.
-use Rattle.std.specs.Prelude.{ℕ, zero, suc, ◌+◌, ◌*◌, ◌==◌, nat_lt, List, [], ◌∷◌, length, Bool, true, false, not, if◌then◌else◌, codes, Option, Some, None, option_map, option_and_then}
+use Rattle.std.specs.Prelude.{ℕ, zero, suc, ◌+◌, ◌*◌, ◌==◌, nat_lt, List, [], ◌∷◌, length, Bool, true, false, not, if◌then◌else◌, codes, Option, Some, None}
+use Rattle.std.specs.Prelude.{option_map, option_and_then}
 use Rattle.lane_core.specs.declared.number.Num.{Num}
 use Rattle.c_text.specs.declared.tokens.Token.{Token}
 use Rattle.c_conditions.specs.declared.worths.Worth.{Worth}
@@ -87,7 +88,8 @@ abbrev pub read_in : ℕ → Reader
 read_in zero g ts = None
 read_in (suc n) g ts = read_step (λ h us. read_in n h us) g ts
 
--- A goal at the start of tokens. Each level of a token is one step at most, so 12 for each token and 12 more are always enough.
+-- A goal at the start of tokens. Each token takes one step at most for each of the 12 levels, so 12 for each token and 12 more are always enough: `read g ts` is
+-- `read_step read g ts` (`read-step` of proofs/Fuel).
 unfoldable pub read : Reader
 read g ts = read_in (12 * (length ts + 1)) g ts
 

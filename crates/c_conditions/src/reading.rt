@@ -114,7 +114,8 @@ fn close_condition<'a>(
     operand: Worth,
     tokens: &'a [Token],
 ) -> Result<Step<'a>, AllocError>
-    ensures goes { IfOk result (λ s. Goes (whole (resumed stack.old.items (around (Pending.Condition condition) (Some (operand, tokens.now))))) s stack.new.items) }
+    ensures goes { IfOk result (λ s. Goes (whole (resumed stack.old.items
+        (around (Pending.Condition condition) (Some (operand, tokens.now))))) s stack.new.items) }
     ensures shorter { IfOk result (λ s. IsShorter (2 * length tokens.now + length stack.old.items + 1) s stack.new.items) }
 {
     match after_mark(b":", tokens) {
@@ -207,7 +208,8 @@ fn go_on<'a>(
 }
 
 fn read_on<'a>(stack: &mut Vec<Pending>, rest: Rest<'a>) -> Result<Step<'a>, AllocError>
-    ensures goes { IfOk result (λ s. Goes (whole (resumed stack.old.items (left rest.entry.level rest.entry.operand rest.entry.tokens.now))) s stack.new.items) }
+    ensures goes { IfOk result (λ s. Goes (whole (resumed stack.old.items
+        (left rest.entry.level rest.entry.operand rest.entry.tokens.now))) s stack.new.items) }
     ensures shorter { IfOk result (λ s. IsShorter (2 * length rest.entry.tokens.now + length stack.old.items) s stack.new.items) }
 {
     match rest.operand {

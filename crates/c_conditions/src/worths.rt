@@ -5,7 +5,8 @@ ghost use Rattle.lane_core.specs.declared.number.IntType.TheVariants.{Long, ULon
 ghost use Rattle.lane_core.specs.IntRange.{is_signed};
 ghost use Rattle.scalar_core.specs.Numbers.{converted};
 ghost use Rattle.scalar_core.specs.Operators.{binary_of, unary_of, binary_type, unary_type};
-ghost use Rattle.c_conditions.specs.Worths.{widest, worth_of, known, undefined, truth_of, is_zero, truth_in, both, either, operated, joined, operated_before, chosen, has_unsigned_suffix, type_of_constant};
+ghost use Rattle.c_conditions.specs.Worths.{widest, worth_of, known, undefined, truth_of, is_zero, truth_in, both, either, operated, joined, operated_before};
+ghost use Rattle.c_conditions.specs.Worths.{chosen, has_unsigned_suffix, type_of_constant};
 
 use crate::signs::Infix;
 use lane_core::number::{BinOp, IntType, Num, UnOp};

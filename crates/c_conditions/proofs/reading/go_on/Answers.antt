@@ -1,7 +1,8 @@
 use Rattle.c_conditions.proofs.Resuming.{goes-joint, goes-question, goes-nowhere}
 use Rattle.c_conditions.proofs.Coding.{goes_along, no_tokens, unlinked_end, unlinked_infix, unlinked_question, unlinked_nothing}
 use Rattle.c_conditions.proofs.reading.go_on.Goals as goal
-use Rattle.c_conditions.proofs.reading.go_on.Goals.{in_default-via-in-Infix+else-level-tight, in_default-via-in-Question+else-level-eq0, in_default-via-in_default}
+use Rattle.c_conditions.proofs.reading.go_on.Goals.{in_default-via-in-Infix+else-level-tight, in_default-via-in-Question+else-level-eq0}
+use Rattle.c_conditions.proofs.reading.go_on.Goals.{in_default-via-in_default}
 
 pub returns-in-None-clause-goes : goal.returns-in-None-clause-goes
 returns-in-None-clause-goes c =
