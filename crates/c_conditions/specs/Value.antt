@@ -88,8 +88,8 @@ abbrev pub read_in : ℕ → Reader
 read_in zero g ts = None
 read_in (suc n) g ts = read_step (λ h us. read_in n h us) g ts
 
--- A goal at the start of tokens. Each token takes one step at most for each of the 12 levels, so 12 for each token and 12 more are always enough, and `read g ts`
--- is `read_step read g ts` (`read-step` of proofs/Fuel).
+-- A goal at the start of tokens. Each token takes one step at most for each of the 12 levels, so 12 for each token and 12 more are always enough, and
+-- `read g ts` is `read_step read g ts` (`read-step` of proofs/Fuel).
 unfoldable pub read : Reader
 read g ts = read_in (12 * (length ts + 1)) g ts
 
