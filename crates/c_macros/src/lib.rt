@@ -12,7 +12,9 @@ mod roles;
 mod segments;
 mod sights;
 
+pub use arguments::is_mark;
 pub use expanding::{Made, Next, Open, expand_in};
+pub use filling::placed;
 pub use hinted::{jumps_of, split_hinted};
 pub use macros::{Macro, Piece};
 pub use names::Macros;
