@@ -1,0 +1,4 @@
+pub mod Worths
+pub mod Signs
+pub mod Value
+pub mod Rows
