@@ -44,15 +44,24 @@ links_by_mark =
 abbrev pub link_of_mark : List ℕ → Link
 link_of_mark text = unwrap_or (lookup (bytes_eq text) links_by_mark) links.Nothing
 
+-- how a token of this kind and text goes on behind an operand
+abbrev pub link_by : TokenKind → List ℕ → Link
+link_by Mark text = link_of_mark text
+link_by _ text = links.Nothing
+
 -- how a token goes on behind an operand
 unfoldable pub link_of : Token → Link
-link_of t = elim (is_mark_kind t.kind) [ true ↦ link_of_mark t.text | false ↦ links.Nothing ]
+link_of t = link_by t.kind t.text
 
 -- the marks that begin an operand: the operators before it (6.5.3.3), and a bracket (6.5.1p5)
 abbrev pub starts_by_mark : List (List ℕ × Start)
 starts_by_mark =
     (codes "+", starts.Prefix Plus) ∷ (codes "-", starts.Prefix Neg) ∷ (codes "~", starts.Prefix BitNot) ∷
     (codes "!", starts.Prefix Not) ∷ (codes "(", starts.Bracket) ∷ []
+
+-- what a mark begins
+abbrev pub mark_start : List ℕ → Start
+mark_start text = unwrap_or (lookup (bytes_eq text) starts_by_mark) starts.Nothing
 
 -- a number or a character constant is an operand where it has a value
 abbrev pub constant_start : List ℕ → Option (IntType × ℤ) → Start
@@ -65,7 +74,7 @@ start_of Name text = starts.Operand (known Long (pos 0))
 start_of Number text = constant_start text (constant_of Number text)
 start_of Quote text = constant_start [] (constant_of Quote text)
 start_of Str text = starts.Nothing
-start_of Mark text = unwrap_or (lookup (bytes_eq text) starts_by_mark) starts.Nothing
+start_of Mark text = mark_start text
 start_of Lone text = starts.Nothing
 
 -- what a token begins where an operand must stand

@@ -1,10 +1,12 @@
 -- The value of the expression of an `#if` or `#elif` line, whose `defined`s are replaced and whose macros are expanded (C11 6.10.1). It is a constant
 -- expression without assignments, commas, steps, calls and casts (6.6p3), so these productions of 6.5 are left: a primary expression, a unary expression, the
 -- ten levels of operators between operands, and the conditional expression.
-use Rattle.std.specs.Prelude.{ℕ, zero, suc, ◌+◌, ◌*◌, ◌==◌, nat_lt, List, [], ◌∷◌, length, Bool, true, false, not, codes, Option, Some, None, option_map}
+use Rattle.std.specs.Prelude.{ℕ, zero, suc, ◌+◌, ◌*◌, ◌==◌, nat_lt, List, [], ◌∷◌, length, Bool, true, false, not, if◌then◌else◌, codes, Option, Some, None}
+use Rattle.std.specs.Prelude.{option_map, option_and_then}
 use Rattle.lane_core.specs.declared.number.Num.{Num}
 use Rattle.c_text.specs.declared.tokens.Token.{Token}
-use Rattle.c_conditions.specs.declared.worth.Worth.{Worth}
+use Rattle.c_conditions.specs.declared.worths.Worth.{Worth}
+use Rattle.c_conditions.specs.declared.signs.Infix.{Infix}
 use Rattle.c_conditions.specs.declared.signs.Link.{Link}
 use Rattle.c_conditions.specs.declared.signs.Link.TheVariants as links
 use Rattle.c_conditions.specs.declared.signs.Start.{Start}
@@ -26,10 +28,14 @@ abbrev pub and_read : Read → (Worth → List Token → Read) → Read
 and_read None f = None
 and_read (Some (v, ts)) f = f v ts
 
+-- the tokens behind this mark, if it comes next
+abbrev pub after_mark : List ℕ → List Token → Option (List Token)
+after_mark text [] = None
+after_mark text (t ∷ ts) = if is_mark text t then Some ts else None
+
 -- this mark must come next, and then what is read behind it
 abbrev pub behind_mark : List ℕ → List Token → (List Token → Read) → Read
-behind_mark text [] f = None
-behind_mark text (t ∷ ts) f = elim (is_mark text t) [ true ↦ f ts | false ↦ None ]
+behind_mark text ts f = option_and_then f (after_mark text ts)
 
 -- what reads a goal at the start of tokens
 abbrev pub Reader : Type 0
@@ -46,29 +52,35 @@ abbrev pub unary : List Token → Reader → Read
 unary [] go = None
 unary (t ∷ ts) go = begun (start t) ts go
 
--- what goes on at a level behind an operand, by what its first token is: at level 0 `?`, an expression, `:` and a conditional expression; at the level of an
--- operator this operator, an operand of the next level, and what goes on behind both, since they group from the left
+-- what goes on behind a condition, where its `?` is told to count: an expression, `:` and a conditional expression (6.5.15)
+abbrev pub choice : Bool → Worth → Token → List Token → Reader → Read
+choice false c t ts go = Some (c, t ∷ ts)
+choice true c t ts go =
+    and_read (go (Level 0) ts) (λ a rest. behind_mark (codes ":") rest (λ after. and_read (go (Level 0) after) (λ b end. Some (chosen c a b, end))))
+
+-- what goes on at a level behind an operand, where the operator that follows is told to be of this level: an operand of the next level, and what goes on behind
+-- both, since operators of a level group from the left (6.5.5 to 6.5.14)
+abbrev pub joint : Bool → ℕ → Infix → Worth → Token → List Token → Reader → Read
+joint false k op a t ts go = Some (a, t ∷ ts)
+joint true k op a t ts go = and_read (go (Level (k + 1)) ts) (λ b rest. go (More k (joined op a b)) rest)
+
+-- what goes on at a level behind an operand, by how its first token goes on
 abbrev pub linked : ℕ → Worth → Link → Token → List Token → Reader → Read
 linked k v links.Nothing t ts go = Some (v, t ∷ ts)
-linked k v links.Question t ts go = elim (k == 0) [
-  | true ↦ and_read (go (Level 0) ts) (λ a rest. behind_mark (codes ":") rest (λ after. and_read (go (Level 0) after) (λ b end. Some (chosen v a b, end))))
-  | false ↦ Some (v, t ∷ ts)
-]
-linked k v (links.Infix l op) t ts go = elim (l == k) [
-  | true ↦ and_read (go (Level (k + 1)) ts) (λ w rest. go (More k (joined op v w)) rest)
-  | false ↦ Some (v, t ∷ ts)
-]
+linked k v links.Question t ts go = choice (k == 0) v t ts go
+linked k v (links.Infix l op) t ts go = joint (l == k) k op v t ts go
 
 abbrev pub more : ℕ → Worth → List Token → Reader → Read
 more k v [] go = Some (v, [])
 more k v (t ∷ ts) go = linked k v (link_of t) t ts go
 
--- an expression of a level below 11 is one of the next level, and what goes on behind it
-abbrev pub level : ℕ → List Token → Reader → Read
-level k ts go = elim (nat_lt k 11) [ true ↦ and_read (go (Level (k + 1)) ts) (λ v rest. go (More k v) rest) | false ↦ unary ts go ]
+-- an expression of a level, which is told to be one of operators or not: one of the next level, and what goes on behind it; or a unary expression
+abbrev pub level : Bool → ℕ → List Token → Reader → Read
+level true k ts go = and_read (go (Level (k + 1)) ts) (λ v rest. go (More k v) rest)
+level false k ts go = unary ts go
 
 abbrev pub read_step : Reader → Goal → List Token → Read
-read_step go (Level k) ts = level k ts go
+read_step go (Level k) ts = level (nat_lt k 11) k ts go
 read_step go (More k v) ts = more k v ts go
 
 -- a goal that takes at most this many steps within one another
@@ -76,7 +88,8 @@ abbrev pub read_in : ℕ → Reader
 read_in zero g ts = None
 read_in (suc n) g ts = read_step (λ h us. read_in n h us) g ts
 
--- A goal at the start of tokens. Each level of a token is one step at most, so 12 for each token and 12 more are always enough.
+-- A goal at the start of tokens. Each token takes one step at most for each of the 12 levels, so 12 for each token and 12 more are always enough: `read g ts` is
+-- `read_step read g ts` (`read-step` of proofs/Fuel).
 unfoldable pub read : Reader
 read g ts = read_in (12 * (length ts + 1)) g ts
 

@@ -12,7 +12,7 @@ use Rattle.lane_core.specs.IntRange.{is_signed, greatest}
 use Rattle.scalar_core.specs.Ranks.{common_of}
 use Rattle.scalar_core.specs.Numbers.{num_of, converted}
 use Rattle.scalar_core.specs.Operators.{binary_of, unary_of, binary_type, unary_type}
-use Rattle.c_conditions.specs.declared.worth.Worth.{Worth}
+use Rattle.c_conditions.specs.declared.worths.Worth.{Worth}
 use Rattle.c_conditions.specs.declared.signs.Infix.{Infix}
 use Rattle.c_conditions.specs.declared.signs.Infix.TheVariants.{OrElse, AndThen, Operator}
 

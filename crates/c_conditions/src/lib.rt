@@ -1,8 +1,8 @@
 //! The value of the expression of an `#if` or `#elif` line, by ISO C11 6.10.1.
 #![tactic(auto)]
 
+mod reading;
 mod signs;
-mod worth;
+mod worths;
 
-pub use signs::{Infix, Link, Start};
-pub use worth::Worth;
+pub use reading::{holds, value};
