@@ -1,0 +1,4 @@
+pub mod Numbering
+pub mod Cuts
+pub mod Lists
+pub mod Leaving
