@@ -2,3 +2,4 @@ pub mod Numbering
 pub mod Cuts
 pub mod Lists
 pub mod Leaving
+pub mod Printing

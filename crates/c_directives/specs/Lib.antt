@@ -6,4 +6,6 @@ pub mod Words
 pub mod Operands
 pub mod Directives
 pub mod Entries
+pub mod Printed
 pub mod Answers
+pub mod Rows

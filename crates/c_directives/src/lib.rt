@@ -8,6 +8,7 @@ mod definitions;
 mod directives;
 mod expansion;
 mod headers;
+mod laws;
 mod numbers;
 mod operands;
 mod parts;
@@ -18,4 +19,5 @@ mod state;
 mod words;
 
 pub use expansion::expand;
+pub use laws::printed_text;
 pub use rules::{Rules, rules_of};
