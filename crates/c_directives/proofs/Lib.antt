@@ -1,0 +1,5 @@
+pub mod Numbering
+pub mod Cuts
+pub mod Lists
+pub mod Leaving
+pub mod Printing

@@ -1,0 +1,11 @@
+pub mod Parts
+pub mod Definitions
+pub mod Predefined
+pub mod Headers
+pub mod Words
+pub mod Operands
+pub mod Directives
+pub mod Entries
+pub mod Printed
+pub mod Answers
+pub mod Rows
