@@ -97,7 +97,7 @@ pub record IsNamed (x : List ℕ) (t : CType) (b : Binding) : Type 0 where
   pub name : b.name ≡ x
   pub ty : b.ty ≡ t
 
--- a pair and its two halves
+-- a pair and its two halves, of which the low one is declared before the high one
 pub record InHalves (R : Relation) (x : List ℕ) (s : CType) (low high : List ℕ) (h t : CType) (b c d : Binding) : Type 0 where
   pub whole : IsNamed x s b
   pub low_half : IsNamed low t c
@@ -122,7 +122,7 @@ abbrev pub Scope : Relation → List Carried → Marks → List Binding → List
 Scope R [] marks [] [] = Unit {0}
 Scope R (Shared way x s t ∷ rest) marks (b ∷ bs) (c ∷ cs) = Both x s t b c × Kept R way s (marks 0) b.location c.location × Scope R rest (outer marks) bs cs
 Scope R (Added x t ∷ rest) marks bs (c ∷ cs) = IsNamed x t c × AddedAt (marks 0) c.location × Scope R rest (outer marks) bs cs
-Scope R (Halved x s low high h t ∷ rest) marks (b ∷ bs) (c ∷ d ∷ cs) = InHalves R x s low high h t b c d × Scope R rest (outer marks) bs cs
+Scope R (Halved x s low high h t ∷ rest) marks (b ∷ bs) (c ∷ d ∷ cs) = InHalves R x s low high h t b d c × Scope R rest (outer marks) bs cs
 Scope R _ _ _ _ = ⊥
 
 -- the same, with more objects in front

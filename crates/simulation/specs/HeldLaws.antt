@@ -41,7 +41,7 @@ module _ (R : Relation) (x : List ℕ) (s : CType) where
   added_hold true y t c rest ks bs cs o h k q next = absurd q
   added_hold false y t c rest ks bs cs o h k q next = let r = next q in record { v = r.v; w = r.w; values = r.values; scoped = (h, k, r.scoped) }
 
-  halved_hold : (v : Bool) (y : List ℕ) (z : CType) (low high : List ℕ) (u t : CType) (b c d : Binding) (rest : List Carried) (ks : Marks) (bs cs : List Binding) (o : Option Carried) → InHalves R y z low high u t b c d
+  halved_hold : (v : Bool) (y : List ℕ) (z : CType) (low high : List ℕ) (u t : CType) (b c d : Binding) (rest : List Carried) (ks : Marks) (bs cs : List Binding) (o : Option Carried) → InHalves R y z low high u t b d c
       → IsFixed s (if v then Some (Halved y z low high u t) else o) → (IsFixed s o → Holding R s (held x rest) (λ m. marked x m rest (outer ks)) bs cs)
       → Holding R s (if v then Halved y z low high u t ∷ rest else Halved y z low high u t ∷ held x rest) (λ m. if v then inner m (outer ks) else inner (ks 0) (marked x m rest (outer ks))) (b ∷ bs) (c ∷ d ∷ cs)
   halved_hold true y z low high u t b c d rest ks bs cs o h q next = absurd q

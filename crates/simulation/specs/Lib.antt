@@ -4,3 +4,8 @@ pub mod BlockLaws
 pub mod Steps
 pub mod ScopeLaws
 pub mod HeldLaws
+pub mod ObjectLaws
+pub mod StatementLaws
+pub mod FunctionLaws
+pub mod Runs
+pub mod UnitLaws

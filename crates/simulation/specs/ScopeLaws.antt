@@ -50,10 +50,10 @@ module _ (R : Relation) (x : List ℕ) where
   halved_seen false i j l y s low high u t a m b c d o p q e h = rw ((e refl).first, (e refl).second, (e refl).third) h
 
   -- the three names of a pair, at the objects themselves
-  not_named : (y low high : List ℕ) (b c d : Binding) → b.name ≡ y → c.name ≡ low → d.name ≡ high → (bytes_eq x y || (bytes_eq x low || bytes_eq x high)) ≡ false → IsNone (bytes_eq x b.name) (bytes_eq x c.name) (bytes_eq x d.name)
+  not_named : (y low high : List ℕ) (b c d : Binding) → b.name ≡ y → c.name ≡ high → d.name ≡ low → (bytes_eq x y || (bytes_eq x low || bytes_eq x high)) ≡ false → IsNone (bytes_eq x b.name) (bytes_eq x c.name) (bytes_eq x d.name)
   not_named y low high b c d e f g h =
       let n = none_of (bytes_eq x y) (bytes_eq x low) (bytes_eq x high) h in
-      record { first = ap (bytes_eq x) e ∙ n.first; second = ap (bytes_eq x) f ∙ n.second; third = ap (bytes_eq x) g ∙ n.third }
+      record { first = ap (bytes_eq x) e ∙ n.first; second = ap (bytes_eq x) f ∙ n.third; third = ap (bytes_eq x) g ∙ n.second }
 
   pub found_seen : (scope : List Carried) (ks : Marks) (bs cs : List Binding) → Scope R scope ks bs cs → Seen R (carried x scope) (mark_of x scope ks) (found x bs) (found x cs)
   found_seen [] ks [] [] h = tt
@@ -64,7 +64,7 @@ module _ (R : Relation) (x : List ℕ) where
       added_seen (bytes_eq x y) (bytes_eq x c.name) y t (ks 0) (mark_of x rest (outer ks)) c (carried x rest) (found x bs) (found x cs) (ap (bytes_eq x) h.0.name) (found_seen rest (outer ks) bs cs h.2)
   found_seen (Halved y s low high u t ∷ rest) ks (b ∷ bs) (c ∷ d ∷ cs) h =
       halved_seen (is_named x (Halved y s low high u t)) (bytes_eq x b.name) (bytes_eq x c.name) (bytes_eq x d.name) y s low high u t (ks 0) (mark_of x rest (outer ks)) b c d (carried x rest) (found x bs) (found x cs)
-      (not_named y low high b c d h.0.whole.name h.0.low_half.name h.0.high_half.name) (found_seen rest (outer ks) bs cs h.1)
+      (not_named y low high b c d h.0.whole.name h.0.high_half.name h.0.low_half.name) (found_seen rest (outer ks) bs cs h.1)
   found_seen [] ks [] (c ∷ cs) h = absurd h
   found_seen [] ks (b ∷ bs) cs h = absurd h
   found_seen (Shared way y s t ∷ rest) ks [] cs h = absurd h
@@ -99,7 +99,7 @@ module _ (R : Relation) (x : List ℕ) (f g : Location → Location) where
   added_changed false j y t c rest ks bs cs es o m e h k q next = rw e (h, k, next q)
 
   halved_changed : (v i j l : Bool) (y : List ℕ) (s : CType) (low high : List ℕ) (u t : CType) (b c d : Binding) (rest : List Carried) (ks : Marks) (bs cs ds es : List Binding) (o : Option Carried) (m : Mark) → (v ≡ false → IsNone i j l)
-      → InHalves R y s low high u t b c d → Changes R f g (if v then Some (Halved y s low high u t) else o) (if v then ks 0 else m) → (Changes R f g o m → Scope R rest (outer ks) ds es)
+      → InHalves R y s low high u t b d c → Changes R f g (if v then Some (Halved y s low high u t) else o) (if v then ks 0 else m) → (Changes R f g o m → Scope R rest (outer ks) ds es)
       → Scope R (Halved y s low high u t ∷ rest) ks (step i b f bs ds) (step j c g (d ∷ cs) (step l d g cs es))
   halved_changed true i j l y s low high u t b c d rest ks bs cs ds es o m e h q next = absurd q
   halved_changed false i j l y s low high u t b c d rest ks bs cs ds es o m e h q next = rw ((e refl).first, (e refl).second, (e refl).third) (h, next q)
@@ -113,7 +113,7 @@ module _ (R : Relation) (x : List ℕ) (f g : Location → Location) where
       added_changed (bytes_eq x y) (bytes_eq x c.name) y t c rest ks (changed x f bs) cs (changed x g cs) (carried x rest) (mark_of x rest (outer ks)) (ap (bytes_eq x) h.0.name) h.0 h.1 k (changed_alike rest (outer ks) bs cs h.2)
   changed_alike (Halved y s low high u t ∷ rest) ks (b ∷ bs) (c ∷ d ∷ cs) h k =
       halved_changed (is_named x (Halved y s low high u t)) (bytes_eq x b.name) (bytes_eq x c.name) (bytes_eq x d.name) y s low high u t b c d rest ks bs cs (changed x f bs) (changed x g cs) (carried x rest) (mark_of x rest (outer ks))
-      (not_named R x y low high b c d h.0.whole.name h.0.low_half.name h.0.high_half.name) h.0 k (changed_alike rest (outer ks) bs cs h.1)
+      (not_named R x y low high b c d h.0.whole.name h.0.high_half.name h.0.low_half.name) h.0 k (changed_alike rest (outer ks) bs cs h.1)
   changed_alike (Shared way y s t ∷ rest) ks [] cs h k = absurd h
   changed_alike (Shared way y s t ∷ rest) ks (b ∷ bs) [] h k = absurd h
   changed_alike (Added y t ∷ rest) ks bs [] h k = absurd h
