@@ -9,3 +9,6 @@ pub mod StatementLaws
 pub mod FunctionLaws
 pub mod Runs
 pub mod UnitLaws
+pub mod ExpressionLaws
+pub mod WrittenValues
+pub mod WrittenRuns

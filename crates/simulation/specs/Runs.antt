@@ -1,5 +1,5 @@
 -- Which functions and tables of two units correspond, so that all runs of the first are matched.
-use Rattle.std.specs.Prelude.{◌≡◌, ℕ, ◌+◌, ◌<◌, ◌^◌, length, List, [], ◌∷◌, true, false}
+use Rattle.std.specs.Prelude.{◌≡◌, ℕ, ◌+◌, ◌<◌, ◌^◌, length, map, List, [], ◌∷◌, Some, true, false}
 use Rattle.std.specs.Str.{bytes_eq}
 use Rattle.c_tree.specs.declared.types.CType.{CType}
 use Rattle.c_tree.specs.Tree.{Object, Definition, External, Function, Table}
@@ -23,6 +23,10 @@ pub data Runs (n : ℕ) (R : Relation) (tables others : List Binding) : Calls �
 abbrev pub AreGood : List Block → Type 0
 AreGood [] = Unit {0}
 AreGood (b ∷ rest) = AreBytes b.bytes × (length b.bytes < 2 ^ 63) × AreGood rest
+
+-- bytes that a block gets
+abbrev pub SetBytes : List ℕ → Type 0
+SetBytes bytes = AreBytes (map Some bytes)
 
 -- the tables of a unit as objects of both: one of the second has the type that the first's is written as
 abbrev pub tables_in_scope : (CType → CType) → List External → List Carried

@@ -156,22 +156,23 @@ module _ {n : ℕ} where
     pub call_sim : (R : Relation) (c d : Calls) (f g : List ℕ) (ts : List CType) (ty : CType) (vs ws : List Value) → CallsTo n R c d f ts ty g → Arguments R ts vs ws → Sim n (Given R ty) E E (c f vs) (d g ws)
     call_sim R c d f g ts ty vs ws h k = record { by = λ s t e. back_ends n R ty E s t (c f vs s) (d g ws t) e.objects (h.by vs ws s t k (e.memory, e.left)) }
 
-    -- what an expression gives, as a value and back
-    pub its_value_sim : {p q : Does (Option Value)} (R : Relation) (ty : CType) → Sim n (Given R ty) E E p q → Sim n (R ty) E E (its_value p) (its_value q)
-    its_value_sim R ty h = bind_sim h (λ v w e. defined_sim v w (there v w e))
-      where
-        there : (v w : Option Value) → Given R ty v w → Options (R ty) v w
-        there None None e = tt
-        there (Some v) (Some w) e = e
-        there None (Some w) e = absurd e
-        there (Some v) None e = absurd e
-
-    pub give_sim : {p q : Does Value} (R : Relation) (ty : CType) → Sim n (R ty) E E p q → Sim n (Given R ty) E E (give p) (give q)
-    give_sim R ty h = bind_sim h (λ v w e. pure_sim (Some v) (Some w) e)
-
     -- a step of the source in another form
     pub source_as : {A B : Type 0} {V : A → B → Type 0} {F : Objects} {p r : Does A} {q : Does B} → ((s : State) → p s ≡ r s) → Sim n V E F p q → Sim n V E F r q
     source_as {V = V} {F = F} {q = q} same h = record { by = λ s t e. subst (λ o. Ends V (After n F t) o (q t)) (same s) (h.by s t e) }
+
+module _ {n : ℕ} {E F : Objects} where
+  -- what an expression gives, as a value and back
+  pub its_value_sim : {p q : Does (Option Value)} (R : Relation) (ty : CType) → Sim n (Given R ty) E F p q → Sim n (R ty) E F (its_value p) (its_value q)
+  its_value_sim R ty h = bind_sim h (λ v w e. defined_sim v w (there v w e))
+    where
+      there : (v w : Option Value) → Given R ty v w → Options (R ty) v w
+      there None None e = tt
+      there (Some v) (Some w) e = e
+      there None (Some w) e = absurd e
+      there (Some v) None e = absurd e
+
+  pub give_sim : {p q : Does Value} (R : Relation) (ty : CType) → Sim n (R ty) E F p q → Sim n (Given R ty) E F (give p) (give q)
+  give_sim R ty h = bind_sim h (λ v w e. pure_sim (Some v) (Some w) e)
 
 pub then_assoc : {A B C : Type 0} (o : Out A) (f : A → Does B) (g : B → Does C) → then_do o (λ a. f a >>= g) ≡ then_do (then_do o f) g
 then_assoc (Done a s) f g = refl

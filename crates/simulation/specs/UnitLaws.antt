@@ -15,7 +15,7 @@ use Rattle.c_memory.specs.Outcomes.{Outcome}
 use Rattle.c_memory.specs.Functions.{types_of, function_named, none_named}
 use Rattle.c_memory.specs.Values.{AreBytes, IsMemory}
 use Rattle.c_memory.specs.Written.{TablesMatch, UnitsMatch, NoItems, AndFunction, AndTable, AndHelper as AndHelperItem, MatchingArguments, Follows, DoesTheSame}
-use Rattle.c_memory.specs.MeaningState.{InBlock, Binding, State, Out, Done, Turns, Undefined}
+use Rattle.c_memory.specs.MeaningState.{InBlock, Binding, State, Out, Done, Turns, Undefined, spend_from, spend}
 use Rattle.c_memory.specs.Meaning.{Calls, call_of, with_function, outermost, functions, table_block, table_blocks, table_objects, outcome, means}
 use Rattle.simulation.specs.Alike.{Relation, Given, Arguments, Covers, Blocks, Ends, Worlds, Back, CallsAlike}
 use Rattle.simulation.specs.Carried.{InMemory, Carried, Shared, Marks, Number, Scope, outer}
@@ -104,7 +104,7 @@ good_alike (b ∷ m) h = (
 
 -- ---- outcomes
 
-kept_alike : (n : ℕ) (m w : List Block) → Blocks n m w → map kept (take n m) ≡ map kept (take n w)
+pub kept_alike : (n : ℕ) (m w : List Block) → Blocks n m w → map kept (take n m) ≡ map kept (take n w)
 kept_alike zero m w h = refl
 kept_alike (suc n) [] [] h = refl
 kept_alike (suc n) (b ∷ m) (c ∷ w) h =
@@ -129,6 +129,14 @@ ends_match n R t s u Turns Undefined leaves h = absurd h
 ends_match n R t s u (Done v y) (Done w z) leaves h = (given_match R t v w leaves h.0, kept_alike n y.memory z.memory h.1.memory)
 ends_match n R t s u (Done v y) Turns leaves h = absurd h
 ends_match n R t s u (Done v y) Undefined leaves h = absurd h
+
+-- turns are spent alike
+turns_from : (n k : ℕ) (s t : State) → Blocks n s.memory t.memory → Ends ◌≡◌ (Worlds n) (spend_from k s) (spend_from k t)
+turns_from n zero s t h = tt
+turns_from n (suc k) s t h = (refl, (h, refl))
+
+pub turns_alike : (n : ℕ) (s t : State) → Worlds n s t → Ends ◌≡◌ (Worlds n) (spend s) (spend t)
+turns_alike n s t h = subst (λ k. Ends ◌≡◌ (Worlds n) (spend_from s.left s) (spend_from k t)) h.1 (turns_from n s.left s t h.0)
 
 -- ---- whole runs
 
