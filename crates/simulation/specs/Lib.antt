@@ -12,3 +12,5 @@ pub mod UnitLaws
 pub mod ExpressionLaws
 pub mod WrittenValues
 pub mod WrittenRuns
+pub mod DeclareLaws
+pub mod SameLaws
