@@ -14,3 +14,5 @@ pub mod WrittenValues
 pub mod WrittenRuns
 pub mod DeclareLaws
 pub mod SameLaws
+pub mod WrittenNumbers
+pub mod WrittenLaws
