@@ -1,6 +1,7 @@
 -- Laws of expressions, one for each form, for any relation of values. What an operator asks of related values is a premise.
 use Rattle.std.proofs.Common.{◌≡◌, ℕ, List, [], ◌∷◌, map, length, Bool, true, false, Option, Some, None, refl, sym, ap, ◌∙◌, subst, if◌then◌else◌}
 use Rattle.std.specs.Option.{option_and_then}
+use Rattle.lane_core.specs.declared.number.IntType.TheVariants as int
 use Rattle.lane_core.specs.declared.number.Num.{Num}
 use Rattle.lane_core.specs.declared.number.BinOp.{BinOp}
 use Rattle.lane_core.specs.declared.number.BinOp.TheVariants as op
@@ -84,6 +85,21 @@ module _ (n : ℕ) (R : Relation) where
   -- related pointers are equal
   abbrev pub Points : CType → Type 0
   Points t = (u v : Value) → R t u v → Options ◌≡◌ (pointer_in u) (pointer_in v)
+
+  into : (r z : CType) (t : CType) (o p : Option Value) → Converts t r z → Options (R t) o p → Options (R r) (option_and_then (converted_value r) o) (option_and_then (converted_value z) p)
+  into r z t None p k h = tt
+  into r z t (Some u) (Some v) k h = k u v h
+  into r z t (Some u) None k h = absurd h
+
+  -- an operator, and then a conversion
+  pub operates_into : (o : BinOp) (s t y r : CType) (o' : BinOp) (p q z : CType) → Operates o s t y o' p q → Converts y r z → ((m w : List Block) (u v a b : Value) → Blocks n m w → R s u v → R t a b
+      → Options (R r) (option_and_then (converted_value r) (operate m o s t u a)) (option_and_then (converted_value z) (operate w o' p q v b)))
+  operates_into o s t y r o' p q z h k m w u v a b i j l = into r z y (operate m o s t u a) (operate w o' p q v b) k (h m w u v a b i j l)
+
+  -- a step adds or takes off 1 and converts
+  pub steps_by : (s t : CType) (up : Bool) → ((o : BinOp) → OperatesInto o s (CType.Int int.Int) s o t (CType.Int int.Int) t) → R (CType.Int int.Int) (as_int true) (as_int true) → Steps s t up
+  steps_by s t true h one m w u v i k = h op.Add m w u v (as_int true) (as_int true) i k one
+  steps_by s t false h one m w u v i k = h op.Sub m w u v (as_int true) (as_int true) i k one
 
   -- ---- places
 

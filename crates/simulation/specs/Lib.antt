@@ -16,3 +16,4 @@ pub mod DeclareLaws
 pub mod SameLaws
 pub mod WrittenNumbers
 pub mod WrittenLaws
+pub mod WrittenMemory

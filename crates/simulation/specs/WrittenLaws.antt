@@ -181,11 +181,11 @@ wrapped_written int.ULong z = refl
 wrapped_written int.LLong z = refl
 wrapped_written int.ULLong z = refl
 
-num_written : (r t : IntType) (z : ℤ) → WrittenValues (CType.Int r) (Value.Int (num_of t z)) (Value.Int (num_of (written_integer t) z))
+pub num_written : (r t : IntType) (z : ℤ) → WrittenValues (CType.Int r) (Value.Int (num_of t z)) (Value.Int (num_of (written_integer t) z))
 unfolding num_of
 num_written r t z = (refl, sym (wrapped_written t z))
 
-boolean_written : (t : IntType) → is_boolean (written_integer t) ≡ is_boolean t
+pub boolean_written : (t : IntType) → is_boolean (written_integer t) ≡ is_boolean t
 boolean_written int.Boolean = refl
 boolean_written int.Char = refl
 boolean_written int.SChar = refl
