@@ -17,3 +17,4 @@ pub mod SameLaws
 pub mod WrittenNumbers
 pub mod WrittenLaws
 pub mod WrittenMemory
+pub mod StoreLaws
