@@ -1,6 +1,7 @@
 -- How each object in scope of the first unit stands in the second.
-use Rattle.std.specs.Prelude.{◌≡◌, ℕ, zero, suc, ◌+◌, length, List, [], ◌∷◌, ◌++◌, Bool, ◌||◌, Option, Some, None, if◌then◌else◌}
+use Rattle.std.specs.Prelude.{◌≡◌, ℕ, zero, suc, ◌+◌, length, List, [], ◌∷◌, ◌++◌, Bool, true, ◌||◌, Option, Some, None, if◌then◌else◌}
 use Rattle.std.specs.Str.{bytes_eq}
+use Rattle.lane_core.specs.declared.vector.NeonLane.{NeonLane}
 use Rattle.c_tree.specs.declared.types.CType.{CType}
 use Rattle.c_memory.specs.declared.value.Value.{Value}
 use Rattle.c_memory.specs.MeaningState.{Location, Apart, Halves, InBlock, Binding, half_at}
@@ -39,11 +40,32 @@ abbrev pub IsApart : Location → Type 0
 IsApart (InBlock k) = ⊥
 IsApart l = Unit {0}
 
+-- 16 bytes, if there are any
+abbrev pub IsLong : Option (List ℕ) → Type 0
+IsLong None = Unit {0}
+IsLong (Some r) = length r ≡ 16
+
+-- apart from memory, and a pair has its bytes
+abbrev pub IsLoose : Location → Type 0
+IsLoose (Apart (Some (Value.R32 pair))) = length pair ≡ 32
+IsLoose (Apart v) = Unit {0}
+IsLoose (Halves a b) = IsLong a × IsLong b
+IsLoose (InBlock k) = ⊥
+
+-- the type of the halves of a pair
+abbrev pub half_type : CType → CType
+half_type CType.M256 = CType.M128
+half_type t = CType.Neon NeonLane.U8 true
+
+-- halves of pairs of the type
+abbrev pub HalfValues : Relation → CType → List ℕ → List ℕ → Type 0
+HalfValues R t a b = R (half_type t) (Value.R16 a) (Value.R16 b)
+
 -- an object that isn't set may be anything in the second run; so may a half
 abbrev pub Places : Relation → CType → Location → Location → Type 0
 Places R t (Apart (Some v)) (Apart (Some w)) = R t v w
-Places R t (Apart None) m = IsApart m
-Places R t (Halves a b) m = IsApart m × Options ◌≡◌ a (half_at 0 m) × Options ◌≡◌ b (half_at 1 m)
+Places R t (Apart None) m = IsLoose m
+Places R t (Halves a b) m = IsLoose m × Options (HalfValues R t) a (half_at 0 m) × Options (HalfValues R t) b (half_at 1 m)
 Places R t _ _ = ⊥
 
 -- both are set to these values

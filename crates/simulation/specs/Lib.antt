@@ -18,3 +18,4 @@ pub mod WrittenNumbers
 pub mod WrittenLaws
 pub mod WrittenMemory
 pub mod StoreLaws
+pub mod HalfLaws

@@ -13,7 +13,7 @@ use Rattle.c_memory.specs.MeaningObjects.{block_of, unset_bytes, is_const, Targe
 use Rattle.c_memory.specs.MeaningState.{Location, Apart, Halves, InBlock, Binding, State, Out, Done, Turns, Undefined, Does, then_do, ◌>>=◌, ◌>>◌, pure, changed, change, set_apart}
 use Rattle.c_memory.specs.Meaning.{begin_object, first_value, filled, fill}
 use Rattle.simulation.specs.Alike.{Relation, Options, Covers, is_first, one_less, Blocks, Stayed, Stays, Objects, Alike, After, Ends, Sim}
-use Rattle.simulation.specs.Carried.{Way, MayBeSet, Fixed, Held, InMemory, MayChange, Carried, Shared, Added, Halved, Mark, Marks, Unmarked, Values, Number, IsApart, AreSet, Places, Kept, Both, IsNamed, Scope, Begun, outer, inner, carried, mark_of}
+use Rattle.simulation.specs.Carried.{Way, MayBeSet, Fixed, Held, InMemory, MayChange, Carried, Shared, Added, Halved, Mark, Marks, Unmarked, Values, Number, IsApart, IsLoose, AreSet, Places, Kept, Both, IsNamed, Scope, Begun, outer, inner, carried, mark_of}
 use Rattle.simulation.specs.BlockLaws.{length_alike, add_alike, stays_same, stays_on, begin_stays}
 use Rattle.simulation.specs.Steps.{later_ends}
 use Rattle.simulation.specs.ScopeLaws.{Binds, set_apart_sim}
@@ -151,10 +151,15 @@ record AreApart (l m : Location) : Type 0 where
   first : IsApart l
   second : IsApart m
 
+loose_apart : (m : Location) → IsLoose m → IsApart m
+loose_apart (Apart v) h = tt
+loose_apart (Halves a b) h = tt
+loose_apart (InBlock k) h = absurd h
+
 places_apart : (R : Relation) (s : CType) (l m : Location) → Places R s l m → AreApart l m
 places_apart R s (Apart (Some v)) (Apart (Some w)) h = record { first = tt; second = tt }
-places_apart R s (Apart None) m h = record { first = tt; second = h }
-places_apart R s (Halves a b) m h = record { first = tt; second = h.0 }
+places_apart R s (Apart None) m h = record { first = tt; second = loose_apart m h }
+places_apart R s (Halves a b) m h = record { first = tt; second = loose_apart m h.0 }
 places_apart R s (Apart (Some v)) (Apart None) h = absurd h
 places_apart R s (Apart (Some v)) (Halves a b) h = absurd h
 places_apart R s (Apart (Some v)) (InBlock k) h = absurd h
