@@ -53,6 +53,10 @@ plain_number : (u t : IntType) (o : Option Num) → written_integer t ≡ t → 
 plain_number u t None e h = tt
 plain_number u t (Some n) e h = (subst (λ s. s ≡ written_integer s) (sym h) (sym e), refl)
 
+-- a number of a type that is written as it is
+pub written_constant : (u t : IntType) (a : Num) → a.ty ≡ t → written_integer t ≡ t → WrittenValues (CType.Int u) (Value.Int a) (Value.Int a)
+written_constant u t a h e = (subst (λ s. s ≡ written_integer s) (sym h) (sym e), refl)
+
 truth_type : (b : Bool) → (truth b).ty ≡ int.Int
 unfolding truth num_of
 truth_type b = refl
