@@ -1,5 +1,5 @@
 -- A text is cut in the same way however many tokens it may have at most.
-use Rattle.std.proofs.Common.{◌≡◌, ℕ, zero, suc, ◌-◌, ◌≤◌, Bool, true, false, cond, List, [], ◌∷◌, length, take, drop, refl, ap, arith}
+use Rattle.std.proofs.Common.{◌≡◌, ℕ, zero, suc, ◌≤◌, List, [], ◌∷◌, length, drop, refl, ap, arith}
 use Rattle.std.proofs.lemmas.List.{length-drop}
 use Rattle.c_text.specs.declared.tokens.Token.{Token}
 use Rattle.c_directives.specs.Parts.{part_length, part_of, parts_most, parts_of}

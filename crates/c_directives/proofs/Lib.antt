@@ -3,3 +3,4 @@ pub mod Cuts
 pub mod Lists
 pub mod Leaving
 pub mod Printing
+pub mod KnownNumbers

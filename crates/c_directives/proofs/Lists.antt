@@ -1,8 +1,7 @@
 -- Lists whose last is taken first.
-use Rattle.std.proofs.Common.{◌≡◌, ◌∙◌, List, [], ◌∷◌, ◌++◌, Option, Some, None, refl, sym, ap}
+use Rattle.std.proofs.Common.{◌≡◌, ◌∙◌, List, [], ◌∷◌, ◌++◌, Some, refl, ap}
 use Rattle.std.proofs.lemmas.List.{reverse-append}
 use mathlib.Core.List.{reverse}
-use Rattle.c_text.specs.declared.refusals.Refusal.{Refusal}
 use Rattle.c_text.specs.Details.{refusal_of}
 use Rattle.c_directives.specs.declared.conditions.Condition.{Condition}
 use Rattle.c_directives.specs.Directives.{unclosed, open_condition}

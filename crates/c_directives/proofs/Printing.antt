@@ -1,17 +1,15 @@
 -- A text without directives and macros' names expands to itself behind lines that include headers.
-use Rattle.std.proofs.Common.{◌≡◌, ◌∙◌, ℕ, ◌+◌, ◌≤◌, Bool, true, false, cond, List, [], ◌∷◌, ◌++◌, length, take, drop, Some, None, Ok, Err, refl, ap, sym, arith}
+use Rattle.std.proofs.Common.{◌≡◌, ◌∙◌, ◌≤◌, true, cond, List, [], ◌∷◌, ◌++◌, length, take, drop, Some, None, Ok, refl, ap, arith}
 use Rattle.std.proofs.lemmas.Option.{slice_get_past}
-use Rattle.c_text.specs.declared.tokens.Dialect.{Dialect}
-use Rattle.c_text.specs.declared.tokens.Dialect.TheVariants.{X86, Neon}
 use Rattle.c_text.specs.declared.tokens.Token.{Token}
 use Rattle.c_macros.specs.Definition.{Macros}
 use Rattle.c_macros.specs.Expansion.{and_then, behind}
 use Rattle.c_macros.specs.Free.{AllFree, FreeTokens}
 use Rattle.c_directives.specs.declared.rules.Rules.{Rules}
-use Rattle.c_directives.specs.Parts.{Part, Text, Line, begins_directive, line_length, text_length, part_length, part_of, parts_of}
-use Rattle.c_directives.specs.Headers.{unknown_header, included, included_from, headers, place_of_header}
+use Rattle.c_directives.specs.Parts.{Text, Line, begins_directive, line_length, text_length, parts_of}
+use Rattle.c_directives.specs.Headers.{unknown_header, included_from, headers, place_of_header}
 use Rattle.c_directives.specs.Predefined.{predefined}
-use Rattle.c_directives.specs.Directives.{State, Then, go_on, unless, by_word, counted, made_of, directive, text, expand_parts, expansion, rules_of}
+use Rattle.c_directives.specs.Directives.{State, Then, go_on, unless, by_word, counted, made_of, directive, text, expand_parts}
 use Rattle.c_directives.specs.Printed.{NoDirective, NoneFirst, line_ends, IsInclude, Behind, NoLine, OneLine, PrintedText}
 use Rattle.c_directives.proofs.Cuts.{parts_first}
 
@@ -56,40 +54,34 @@ one_line hash us rest b h e =
 abbrev begun : Macros → State
 begun macros = record { macros = macros; conditions = []; made = []; work = 0 }
 
-same_dialect : (dialect : Dialect) → (rules_of dialect).dialect ≡ dialect
-same_dialect X86 = refl
-same_dialect Neon = refl
-
-module _ (free : FreeTokens) (dialect : Dialect) where
+module _ (free : FreeTokens) (rules : Rules) where
   abbrev run : State → List Token → Then (List Token)
-  run s ts = expand_parts (rules_of dialect) (parts_of ts) s
+  run s ts = expand_parts rules (parts_of ts) s
 
   -- a line that includes a header changes nothing
-  include_line : (macros : Macros) (hash word : Token) (us : List Token) → IsInclude dialect hash word us → directive (rules_of dialect) hash (word ∷ us) (begun macros) ≡ Ok (begun macros)
+  include_line : (macros : Macros) (hash word : Token) (us : List Token) → IsInclude rules.dialect hash word us → directive rules hash (word ∷ us) (begun macros) ≡ Ok (begun macros)
   unfolding directive
   include_line macros hash word us i =
       let s = begun macros in
-      ap (λ k. by_word (rules_of dialect) hash word k us s) i.says ∙
-      ap (λ d. unless (included d word us) s) (same_dialect dialect) ∙
-      ap (λ o. unless (included_from (headers dialect) word (place_of_header word us) o) s) i.names ∙
+      ap (λ k. by_word rules hash word k us s) i.says ∙
+      ap (λ o. unless (included_from (headers rules.dialect) word (place_of_header word us) o) s) i.names ∙
       ap (λ b. unless (cond b None (Some (record { number = unknown_header; place = (place_of_header word us).place; detail = take 255 i.name }))) s) i.known
 
-  plain_text : (macros : Macros) (ts : List Token) → NoDirective ts → AllFree macros ts → length ts ≤ (rules_of dialect).tokens → run (begun macros) ts ≡ Ok ts
+  plain_text : (macros : Macros) (ts : List Token) → NoDirective ts → AllFree macros ts → length ts ≤ rules.tokens → run (begun macros) ts ≡ Ok ts
   unfolding parts_of text
   plain_text macros [] plain unused few = refl
   plain_text macros (t ∷ ts) plain unused few =
-      ap (λ ps. expand_parts (rules_of dialect) ps (begun macros)) (one_text t ts plain) ∙
-      ap (λ m. go_on (made_of (rules_of dialect) (begun macros) (and_then m (behind []))) (λ s. expand_parts (rules_of dialect) [] s)) (free (rules_of dialect).work macros 64 [] None (t ∷ ts) 0 unused) ∙
-      ap (λ o. go_on (counted (begun macros) (t ∷ ts) 0 o) (λ s. expand_parts (rules_of dialect) [] s)) (slice_get_past (t ∷ ts) (rules_of dialect).tokens few)
+      ap (λ ps. expand_parts rules ps (begun macros)) (one_text t ts plain) ∙
+      ap (λ m. go_on (made_of rules (begun macros) (and_then m (behind []))) (λ s. expand_parts rules [] s)) (free rules.work macros 64 [] None (t ∷ ts) 0 unused) ∙
+      ap (λ o. go_on (counted (begun macros) (t ∷ ts) 0 o) (λ s. expand_parts rules [] s)) (slice_get_past (t ∷ ts) rules.tokens few)
 
   -- nothing is made of lines that include headers
-  lines_free : (macros : Macros) (whole ts : List Token) → Behind dialect whole ts → NoDirective ts → AllFree macros ts → length ts ≤ (rules_of dialect).tokens → run (begun macros) whole ≡ Ok ts
+  lines_free : (macros : Macros) (whole ts : List Token) → Behind rules.dialect whole ts → NoDirective ts → AllFree macros ts → length ts ≤ rules.tokens → run (begun macros) whole ≡ Ok ts
   lines_free macros whole ts (NoLine us) plain unused few = plain_text macros us plain unused few
   lines_free macros whole ts (OneLine hash word us rest vs i ends more) plain unused few =
-      ap (λ ps. expand_parts (rules_of dialect) ps (begun macros)) (one_line hash (word ∷ us) rest i.begins i.inside ends) ∙
-      ap (λ t. go_on t (λ s. expand_parts (rules_of dialect) (parts_of rest) s)) (include_line macros hash word us i) ∙
+      ap (λ ps. expand_parts rules ps (begun macros)) (one_line hash (word ∷ us) rest i.begins i.inside ends) ∙
+      ap (λ t. go_on t (λ s. expand_parts rules (parts_of rest) s)) (include_line macros hash word us i) ∙
       lines_free macros rest ts more plain unused few
 
 pub printed_text : FreeTokens → PrintedText
-unfolding expansion
-printed_text free dialect whole ts h plain unused few = lines_free free dialect (predefined dialect) whole ts h plain unused few
+printed_text free rules whole ts h plain unused few = lines_free free rules (predefined rules.dialect) whole ts h plain unused few

@@ -1,5 +1,5 @@
 -- What the code of directives answers.
-use Rattle.std.specs.Prelude.{◌≡◌, ℕ, List, reverse, Bool, Option, Some, None, Result, Ok, Err}
+use Rattle.std.specs.Prelude.{◌≡◌, List, reverse, Bool, Option, Some, None, Result, Ok, Err}
 use Rattle.c_text.specs.declared.tokens.Token.{Token}
 use Rattle.c_text.specs.declared.refusals.Refusal.{Refusal}
 use Rattle.c_text.specs.declared.refusals.Fail.{Fail}

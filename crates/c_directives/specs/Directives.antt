@@ -13,7 +13,7 @@ use Rattle.c_directives.specs.declared.rules.Rules.{Rules}
 use Rattle.c_directives.specs.declared.conditions.Condition.{Condition}
 use Rattle.c_directives.specs.declared.operands.Waits.TheVariants.{Nothing}
 use Rattle.c_directives.specs.declared.words.Word.{Word}
-use Rattle.c_directives.specs.declared.words.Word.TheVariants.{If, Ifdef, Ifndef, Elif, Else, Endif, Include, Define, Undef, Pragma, Unknown}
+use Rattle.c_directives.specs.declared.words.Word.TheVariants.{If, Ifdef, Ifndef, Elif, Else, Endif, Include, Define, Undef, Pragma}
 use Rattle.c_directives.specs.Parts.{Part, Text, Line, parts_of}
 use Rattle.c_directives.specs.Definitions.{bad_directive, define, undef}
 use Rattle.c_directives.specs.Predefined.{predefined}

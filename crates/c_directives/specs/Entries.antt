@@ -1,5 +1,5 @@
 -- How contracts see what the code has of definitions.
-use Rattle.std.specs.Prelude.{ℕ, List, ◌++◌, Bool, Option, Some, None, nat_eq, Vec}
+use Rattle.std.specs.Prelude.{ℕ, List, ◌++◌, Option, Some, None, nat_eq}
 use Rattle.std.specs.Cmp.Lexicographic.{pointwise}
 use Rattle.std.specs.Map.{lookup}
 use Rattle.c_directives.specs.declared.numbers.Numbers.{Numbers}

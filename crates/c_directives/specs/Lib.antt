@@ -6,6 +6,7 @@ pub mod Words
 pub mod Operands
 pub mod Directives
 pub mod Entries
+pub mod Numbers
 pub mod Printed
 pub mod Answers
 pub mod Rows

@@ -1,5 +1,5 @@
 -- `defined NAME` and `defined(NAME)` in an `#if` line are 1 or 0 before its macros are expanded (C11 6.10.1p1 and p4).
-use Rattle.std.specs.Prelude.{ℕ, List, [], ◌∷◌, ◌++◌, Bool, true, false, if◌then◌else◌, codes, Option, Some, None, is_some, option_map}
+use Rattle.std.specs.Prelude.{List, [], ◌∷◌, ◌++◌, if◌then◌else◌, codes, Option, Some, None, is_some, option_map}
 use Rattle.c_text.specs.declared.tokens.TokenKind.TheVariants.{Number}
 use Rattle.c_text.specs.declared.tokens.Token.{Token}
 use Rattle.c_macros.specs.Definition.{Macros}

@@ -1,5 +1,5 @@
 -- The macros that are defined before a text begins.
-use Rattle.std.specs.Prelude.{ℕ, List, [], ◌∷◌, ◌++◌, Bool, true, false, not, ◌&&◌, if◌then◌else◌, nat_lt, codes, Some}
+use Rattle.std.specs.Prelude.{ℕ, List, [], ◌∷◌, ◌++◌, Bool, true, false, ◌&&◌, if◌then◌else◌, nat_lt, codes, Some}
 use Rattle.c_text.specs.declared.tokens.Dialect.{Dialect}
 use Rattle.c_text.specs.declared.tokens.TokenKind.{TokenKind}
 use Rattle.c_text.specs.declared.tokens.TokenKind.TheVariants.{Name, Number, Mark}

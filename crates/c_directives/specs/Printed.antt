@@ -4,12 +4,13 @@ use Rattle.std.specs.List.{list_any}
 use Rattle.c_text.specs.declared.tokens.Dialect.{Dialect}
 use Rattle.c_text.specs.declared.tokens.Token.{Token}
 use Rattle.c_macros.specs.Free.{AllFree}
+use Rattle.c_directives.specs.declared.rules.Rules.{Rules}
 use Rattle.c_directives.specs.declared.words.Word.TheVariants.{Include}
 use Rattle.c_directives.specs.Parts.{begins_directive}
 use Rattle.c_directives.specs.Predefined.{predefined}
 use Rattle.c_directives.specs.Headers.{headers, header}
 use Rattle.c_directives.specs.Words.{word_of}
-use Rattle.c_directives.specs.Directives.{rules_of, expansion}
+use Rattle.c_directives.specs.Directives.{expansion_by}
 
 -- no token begins a directive
 abbrev pub NoDirective : List Token → Type 0
@@ -40,8 +41,9 @@ pub data Behind (dialect : Dialect) : List Token → List Token → Type 0 where
   OneLine : (hash word : Token) (us rest ts : List Token) → IsInclude dialect hash word us → line_ends rest ≡ true → Behind dialect rest ts →
       Behind dialect (hash ∷ (word ∷ us ++ rest)) ts
 
--- What no directive and no macro's name stands in expands to itself behind lines that include headers, where it is within the limit.
+-- What no directive and no macro's name stands in expands to itself behind lines that include headers, where it is within the limit of
+-- tokens, whatever that is.
 abbrev pub PrintedText : Type 0
 PrintedText =
-    (dialect : Dialect) (whole ts : List Token) → Behind dialect whole ts → NoDirective ts → AllFree (predefined dialect) ts → length ts ≤ (rules_of dialect).tokens →
-    expansion dialect whole ≡ Ok ts
+    (rules : Rules) (whole ts : List Token) → Behind rules.dialect whole ts → NoDirective ts → AllFree (predefined rules.dialect) ts → length ts ≤ rules.tokens →
+    expansion_by rules (predefined rules.dialect) whole ≡ Ok ts

@@ -1,7 +1,6 @@
 -- Small texts, whose tokens stand between spaces, with what they expand to.
-use Rattle.std.specs.Prelude.{◌≡◌, refl, ℕ, ◌+◌, ◌==◌, List, [], ◌∷◌, ◌++◌, map, Option, Some, None, option_map, Bool, true, false, ◌&&◌, ◌||◌, nat_le, if◌then◌else◌, codes, Result, Ok, Err}
+use Rattle.std.specs.Prelude.{◌≡◌, refl, ℕ, ◌+◌, ◌==◌, List, [], ◌∷◌, ◌++◌, map, Some, None, option_map, Bool, true, false, ◌&&◌, ◌||◌, nat_le, if◌then◌else◌, codes, Result, Ok, Err}
 use Rattle.std.specs.Str.{byte}
-use Rattle.c_text.specs.declared.tokens.Dialect.{Dialect}
 use Rattle.c_text.specs.declared.tokens.Dialect.TheVariants.{X86, Neon}
 use Rattle.c_text.specs.declared.tokens.TokenKind.{TokenKind}
 use Rattle.c_text.specs.declared.tokens.TokenKind.TheVariants.{Name, Number, Str, Mark}
@@ -11,7 +10,6 @@ use Rattle.c_conditions.specs.Value.{read}
 use Rattle.c_macros.specs.Definition.{Macros, no_macros, with_macro}
 use Rattle.c_macros.specs.Arguments.{sight}
 use Rattle.c_macros.specs.Expansion.{expand_in, bodies_in}
-use Rattle.c_directives.specs.declared.rules.Rules.{Rules}
 use Rattle.c_directives.specs.declared.operands.Waits.TheVariants.{Nothing}
 use Rattle.c_directives.specs.Operands.{resolved}
 use Rattle.c_directives.specs.Parts.{parts_of}

@@ -1,5 +1,5 @@
 -- The words of directives (C11 6.10p1).
-use Rattle.std.specs.Prelude.{ℕ, List, [], ◌∷◌, Bool, bytes_eq, if◌then◌else◌, codes, Option, Some, None, unwrap_or}
+use Rattle.std.specs.Prelude.{ℕ, List, [], ◌∷◌, bytes_eq, if◌then◌else◌, codes, Option, Some, None, unwrap_or}
 use Rattle.std.specs.Map.{lookup}
 use Rattle.c_text.specs.declared.tokens.Token.{Token}
 use Rattle.c_macros.specs.Arguments.{is_name_kind}

@@ -19,5 +19,5 @@ mod state;
 mod words;
 
 pub use expansion::expand;
-pub use laws::printed_text;
+pub use laws::{expansion_numbers, printed_text};
 pub use rules::{Rules, rules_of};

@@ -1,4 +1,4 @@
-use Rattle.std.proofs.Common.{◌≡◌, ◌∙◌, ◌+◌, ◌||◌, [], ◌∷◌, ◌++◌, take, drop, length, ap, sym, is_some, arith}
+use Rattle.std.proofs.Common.{◌≡◌, ◌∙◌, ◌+◌, ◌||◌, [], ◌∷◌, ◌++◌, take, drop, ap, sym, arith}
 use Rattle.std.proofs.lemmas.Grind.{common_steps}
 use Rattle.c_directives.specs.Definitions.{number_of, has_twice}
 use Rattle.c_directives.specs.Entries.{numbers_of}
