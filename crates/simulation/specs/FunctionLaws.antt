@@ -1,5 +1,5 @@
 -- Laws of functions: parameters that begin, calls of functions, and calls of others where functions stand behind them.
-use Rattle.std.proofs.Common.{◌≡◌, ℕ, List, [], ◌∷◌, length, Bool, true, false, Option, Some, None, refl, subst, if◌then◌else◌}
+use Rattle.std.proofs.Common.{◌≡◌, ℕ, List, [], ◌∷◌, length, Bool, true, false, Option, Some, None, refl, ap, subst, if◌then◌else◌}
 use Rattle.std.specs.Str.{bytes_eq}
 use Rattle.std.proofs.lemmas.Slice.Eq.{bytes_eq-Decides}
 use Rattle.c_tree.specs.declared.types.CType.{CType}
@@ -12,7 +12,8 @@ use Rattle.c_memory.specs.Meaning.{Calls, Flow, Next, Broke, Continued, Returned
 use Rattle.address_taken.specs.Addressed.{takes_statements}
 use Rattle.simulation.specs.Alike.{Relation, Given, Arguments, Flows, Blocks, Objects, After, Ends, Sim, Back, CallsAlike, CallsTo}
 use Rattle.simulation.specs.Carried.{Way, MayBeSet, Fixed, Carried, Shared, Marks, Unmarked, Scope, inner, carried, mark_of}
-use Rattle.simulation.specs.BlockLaws.{length_alike, ended_from_alike, ended_stays}
+use Rattle.c_memory.specs.declared.blocks.Block.{Block}
+use Rattle.simulation.specs.BlockLaws.{length_alike, ended_from_alike, ended_stays, stays_same}
 use Rattle.simulation.specs.MemoryLaw.{TurnsLaw}
 use Rattle.simulation.specs.Steps.{bind_sim, bind_same, pure_sim, undefined_sim, spend_sim}
 use Rattle.simulation.specs.ScopeLaws.{object_sim}
@@ -204,3 +205,27 @@ module _ (n : ℕ) (R : Relation) (tables tables' : List Binding) (f g : Definit
         let mine : bytes_eq g.name g.name ≡ true = (bytes_eq-Decides g.name g.name).1 refl in
         rw (mine, e) (h.by vs ws u v k l);
   }
+
+-- ---- calls that only give a value
+
+-- nothing ends that began before
+pub nothing_ended : (m : List Block) → ended_from (length m) m ≡ m
+nothing_ended [] = refl
+nothing_ended (b ∷ m) = ap (λ rest. b ∷ rest) (nothing_ended m)
+
+-- what two calls give for these arguments, wherever they are made
+pub record GiveAlike (R : Relation) (r : CType) (p q : Does (Option Value)) : Type 0 where
+  pub v : Option Value
+  pub w : Option Value
+  pub given : Given R r v w
+  pub first : (s : State) → p s ≡ Done v s
+  pub second : (t : State) → q t ≡ Done w t
+
+-- rows without accesses, and the rows or helpers that stand for them
+pub values_alike : (n : ℕ) (R : Relation) (ts : List CType) (r : CType) (p q : List Value → Does (Option Value))
+    → ((vs ws : List Value) → Arguments R ts vs ws → GiveAlike R r (p vs) (q ws)) → CallsAlike n R ts r p q
+values_alike n R ts r p q h = record {
+  by = λ vs ws u v k l.
+      let g = h vs ws k in
+      rw (g.first u, g.second v) (g.given, record { memory = l.0; left = l.1; objects = refl; others = refl; stays = stays_same v.memory });
+}

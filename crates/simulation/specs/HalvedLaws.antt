@@ -1,15 +1,16 @@
 -- Laws of a pair of the first unit whose halves are two objects of the second.
-use Rattle.std.proofs.Common.{◌≡◌, ℕ, List, [], ◌∷◌, Bool, true, false, ◌||◌, Option, Some, None, refl, sym, ap, ◌∙◌, subst, if◌then◌else◌}
+use Rattle.std.proofs.Common.{◌≡◌, ℕ, List, [], ◌∷◌, Bool, true, false, ◌||◌, Option, Some, None, refl, sym, ap, ◌∙◌, subst, if◌then◌else◌, ◌++◌}
 use Rattle.std.specs.Prelude.{option_map}
 use Rattle.std.specs.Str.{bytes_eq}
 use Rattle.std.proofs.lemmas.Option.{same_Some}
 use Rattle.std.proofs.lemmas.Slice.Eq.{bytes_eq-Decides}
 use Rattle.c_tree.specs.declared.types.CType.{CType}
 use Rattle.c_memory.specs.declared.value.Value.{Value}
-use Rattle.c_memory.specs.MeaningState.{Location, Apart, Halves, InBlock, Binding, State, ◌>>=◌, defined, found, half_at, object_of}
+use Rattle.c_memory.specs.MeaningState.{Location, Apart, Halves, InBlock, Binding, State, ◌>>=◌, defined, found, half_at, object_of, changed, change, set_apart, ◌>>◌}
 use Rattle.c_memory.specs.MeaningObjects.{half_named, value_named, value_at}
 use Rattle.simulation.specs.Alike.{Relation, Objects, Alike, After, Ends, Sim}
 use Rattle.simulation.specs.Carried.{Way, Carried, Shared, Added, Halved, Marks, InHalves, HalfAt, Scope, outer, is_named, carried}
+use Rattle.simulation.specs.BlockLaws.{stays_same}
 use Rattle.simulation.specs.ScopeLaws.{not_named}
 use Rattle.simulation.specs.Steps.{after_same}
 
@@ -138,6 +139,114 @@ module _ (R : Relation) (x : List ℕ) (s : CType) (low high : List ℕ) (h t : 
   found_halves (Halved y z l g u w ∷ rest) ks [] cs other i f = absurd i
   found_halves (Halved y z l g u w ∷ rest) ks (b ∷ bs) [] other i f = absurd i
   found_halves (Halved y z l g u w ∷ rest) ks (b ∷ bs) (c ∷ []) other i f = absurd i
+
+  -- ---- a pair that changes, and the objects for its halves
+
+  module _ (f g k : Location → Location) (keeps : (b c d : Binding) → InHalves R x s low high h t b c d
+      → InHalves R x s low high h t (record b { location = f b.location }) (record c { location = g c.location }) (record d { location = k d.location })) where
+    changed_here : (rest : List Carried) (ks : Marks) (bs cs : List Binding) (b c d : Binding) → bytes_eq low high ≡ false → InHalves R x s low high h t b d c
+        → Scope R rest (outer ks) bs cs → Scope R (it ∷ rest) ks (changed x f (b ∷ bs)) (changed high k (changed low g (c ∷ d ∷ cs)))
+    changed_here rest ks bs cs b c d other i j =
+        let first : bytes_eq x b.name ≡ true = ap (bytes_eq x) i.whole.name ∙ (bytes_eq-Decides x x).1 refl in
+        let not_high : bytes_eq low c.name ≡ false = ap (bytes_eq low) i.high_half.name ∙ other in
+        let second : bytes_eq low d.name ≡ true = ap (bytes_eq low) i.low_half.name ∙ (bytes_eq-Decides low low).1 refl in
+        let third : bytes_eq high c.name ≡ true = ap (bytes_eq high) i.high_half.name ∙ (bytes_eq-Decides high high).1 refl in
+        rw (first, not_high, second, third) (keeps b d c i, j)
+
+    kept_behind : (y : List ℕ) (v : Bool) (l : Location → Location) (c : Binding) (cs : List Binding) → bytes_eq y c.name ≡ v → v ≡ false
+        → changed y l (c ∷ cs) ≡ c ∷ changed y l cs
+    kept_behind y v l c cs e i = ap (λ z. if z then record c { location = l c.location } ∷ cs else c ∷ changed y l cs) (e ∙ i)
+
+    both_behind : (c : Binding) (cs : List Binding) → bytes_eq low c.name ≡ false → bytes_eq high c.name ≡ false
+        → changed high k (changed low g (c ∷ cs)) ≡ c ∷ changed high k (changed low g cs)
+    both_behind c cs e i = ap (changed high k) (kept_behind low false g c cs e refl) ∙ kept_behind high false k c (changed low g cs) i refl
+
+    pub changed_halves : (scope : List Carried) (ks : Marks) (bs cs : List Binding) → bytes_eq low high ≡ false → Scope R scope ks bs cs
+        → FindIt x low high it scope
+        → Scope R scope ks (changed x f bs) (changed high k (changed low g cs))
+    changed_halves [] ks bs cs other i e = let w = e.whole in absurd (cc)
+    changed_halves (Shared way y u w ∷ rest) ks (b ∷ bs) (c ∷ cs) other i e =
+        let p = passed (bytes_eq x y) (Shared way y u w) it (carried x rest) (shared_not_it way y u w (bytes_eq x y)) e.whole in
+        let q = passed (bytes_eq low y) (Shared way y u w) it (carried low rest) (shared_not_it way y u w (bytes_eq low y)) e.low_half in
+        let r = passed (bytes_eq high y) (Shared way y u w) it (carried high rest) (shared_not_it way y u w (bytes_eq high y)) e.high_half in
+        let m = changed_halves rest (outer ks) bs cs other i.2 (record { whole = p.1; low_half = q.1; high_half = r.1 }) in
+        subst (λ z. Scope R (Shared way y u w ∷ rest) ks z (changed high k (changed low g (c ∷ cs))))
+        (sym (kept_behind x false f b bs (ap (bytes_eq x) i.0.name ∙ p.0) refl))
+        (subst (λ z. Scope R (Shared way y u w ∷ rest) ks (b ∷ changed x f bs) z)
+        (sym (both_behind c cs (ap (bytes_eq low) i.0.other_name ∙ q.0) (ap (bytes_eq high) i.0.other_name ∙ r.0))) (i.0, i.1, m))
+    changed_halves (Added y w ∷ rest) ks bs (c ∷ cs) other i e =
+        let p = passed (bytes_eq x y) (Added y w) it (carried x rest) (added_not_it y w (bytes_eq x y)) e.whole in
+        let q = passed (bytes_eq low y) (Added y w) it (carried low rest) (added_not_it y w (bytes_eq low y)) e.low_half in
+        let r = passed (bytes_eq high y) (Added y w) it (carried high rest) (added_not_it y w (bytes_eq high y)) e.high_half in
+        let m = changed_halves rest (outer ks) bs cs other i.2 (record { whole = p.1; low_half = q.1; high_half = r.1 }) in
+        subst (λ z. Scope R (Added y w ∷ rest) ks (changed x f bs) z) (sym (both_behind c cs (ap (bytes_eq low) i.0.name ∙ q.0)
+        (ap (bytes_eq high) i.0.name ∙ r.0))) (i.0, i.1, m)
+    changed_halves (Halved y z l v u w ∷ rest) ks (b ∷ bs) (c ∷ d ∷ cs) other i e =
+        at (is_named x (Halved y z l v u w)) refl e.whole (λ j. changed_halves rest (outer ks) bs cs other i.1 j)
+      where
+        at : (v' : Bool) → is_named x (Halved y z l v u w) ≡ v' → (if v' then Some (Halved y z l v u w) else carried x rest) ≡ Some it
+            → (FindIt x low high it rest → Scope R rest (outer ks) (changed x f bs) (changed high k (changed low g cs)))
+            → Scope R (Halved y z l v u w ∷ rest) ks (changed x f (b ∷ bs)) (changed high k (changed low g (c ∷ d ∷ cs)))
+        at true o same next =
+            let it_is = same_Some (Halved y z l v u w) it same in
+            let here = subst (λ a. Scope R (a ∷ rest) ks (b ∷ bs) (c ∷ d ∷ cs)) it_is i in
+            subst (λ a. Scope R (a ∷ rest) ks (changed x f (b ∷ bs)) (changed high k (changed low g (c ∷ d ∷ cs)))) (sym it_is)
+            (changed_here rest ks bs cs b c d other here.0 here.1)
+        at false o same next =
+            let q = passed (is_named low (Halved y z l v u w)) (Halved y z l v u w) it (carried low rest)
+            (not_it (Halved y z l v u w) (is_named low (Halved y z l v u w)) o) e.low_half in
+            let r = passed (is_named high (Halved y z l v u w)) (Halved y z l v u w) it (carried high rest)
+            (not_it (Halved y z l v u w) (is_named high (Halved y z l v u w)) o) e.high_half in
+            let m = next (record { whole = same; low_half = q.1; high_half = r.1 }) in
+            let for_x = not_named R x y l v b c d i.0.whole.name i.0.high_half.name i.0.low_half.name o in
+            let for_low = not_named R low y l v b c d i.0.whole.name i.0.high_half.name i.0.low_half.name q.0 in
+            let for_high = not_named R high y l v b c d i.0.whole.name i.0.high_half.name i.0.low_half.name r.0 in
+            let two : changed high k (changed low g (c ∷ d ∷ cs)) ≡ c ∷ d ∷ changed high k (changed low g cs) =
+            ap (λ a. changed high k a) (kept_behind low false g c (d ∷ cs) for_low.second refl) ∙ kept_behind high false k c
+            (changed low g (d ∷ cs)) for_high.second refl
+            ∙ ap (λ a. c ∷ a) (both_behind d cs for_low.third for_high.third) in
+            subst (λ a. Scope R (Halved y z l v u w ∷ rest) ks a (changed high k (changed low g (c ∷ d ∷ cs))))
+            (sym (kept_behind x false f b bs for_x.first refl))
+            (subst (λ a. Scope R (Halved y z l v u w ∷ rest) ks (b ∷ changed x f bs) a) (sym two) (i.0, m))
+    changed_halves (Shared way y u w ∷ rest) ks [] cs other i e = absurd i
+    changed_halves (Shared way y u w ∷ rest) ks (b ∷ bs) [] other i e = absurd i
+    changed_halves (Added y w ∷ rest) ks bs [] other i e = absurd i
+    changed_halves (Halved y z l v u w ∷ rest) ks [] cs other i e = absurd i
+    changed_halves (Halved y z l v u w ∷ rest) ks (b ∷ bs) [] other i e = absurd i
+    changed_halves (Halved y z l v u w ∷ rest) ks (b ∷ bs) (c ∷ []) other i e = absurd i
+
+    -- the first changes its pair, and the second both objects
+    pub change_halves_sim : (n : ℕ) (scope : List Carried) (ks : Marks) → bytes_eq low high ≡ false → FindIt x low high it scope
+        → Sim n ◌≡◌ (Scope R scope ks) (Scope R scope ks) (change x f) (change low g >> change high k)
+    change_halves_sim n scope ks other it_is = record {
+      by = λ u v a. (
+        refl,
+        record {
+          alike = record { objects = changed_halves scope ks u.objects v.objects other a.objects it_is; memory = a.memory; left = a.left };
+          stays = stays_same v.memory;
+        },
+      );
+    }
+
+  -- a value of the pair, and the registers that are its halves
+  pub record AreHalves (v : Value) (a b : List ℕ) : Type 0 where
+    pub low_value : HalfAt R h (half_at 0 (Apart (Some v))) (Apart (Some (Value.R16 a)))
+    pub high_value : HalfAt R h (half_at 1 (Apart (Some v))) (Apart (Some (Value.R16 b)))
+    pub value : R s v (Value.R32 (a ++ b))
+
+  -- the pair gets a value, and both objects their halves of it
+  pub set_halves_sim : (n : ℕ) (scope : List Carried) (ks : Marks) (v : Value) (a b : List ℕ) → bytes_eq low high ≡ false → FindIt x low high it scope
+      → AreHalves v a b
+      → Sim n ◌≡◌ (Scope R scope ks) (Scope R scope ks) (set_apart x v) (set_apart low (Value.R16 a) >> set_apart high (Value.R16 b))
+  set_halves_sim n scope ks v a b other it_is halves =
+      change_halves_sim (λ _. Apart (Some v)) (λ _. Apart (Some (Value.R16 a))) (λ _. Apart (Some (Value.R16 b))) (λ y z w i. record {
+        whole = record { name = i.whole.name; ty = i.whole.ty };
+        low_half = record { name = i.low_half.name; ty = i.low_half.ty };
+        high_half = record { name = i.high_half.name; ty = i.high_half.ty };
+        low_value = halves.low_value;
+        high_value = halves.high_value;
+        value = halves.value;
+      }) n scope ks other it_is
 
   module _ (n : ℕ) (scope : List Carried) (ks : Marks) (other : bytes_eq low high ≡ false) (it_is : FindIt x low high it scope) where
     abbrev here : Objects

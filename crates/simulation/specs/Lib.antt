@@ -21,3 +21,4 @@ pub mod WrittenMemory
 pub mod StoreLaws
 pub mod HalfLaws
 pub mod HalvedLaws
+pub mod RegisterLaws
