@@ -1,5 +1,6 @@
 -- Memories of which one covers the other are read and written alike, and turns are counted alike.
-use Rattle.std.proofs.Common.{◌≡◌, ℕ, zero, suc, ◌+◌, ◌≤◌, ◌%◌, ◌==◌, List, [], ◌∷◌, ◌++◌, map, take, drop, length, Bool, true, false, ◌&&◌, Option, Some, None, refl, sym, ap, ◌∙◌, subst, arith, nat_le, slice_get, slice_set, if◌then◌else◌}
+use Rattle.std.proofs.Common.{◌≡◌, ℕ, zero, suc, ◌+◌, ◌≤◌, ◌%◌, ◌==◌, List, [], ◌∷◌, ◌++◌, map, take, drop, length, Bool, true, false, ◌&&◌, Option, Some, None}
+use Rattle.std.proofs.Common.{refl, sym, ap, ◌∙◌, subst, arith, nat_le, slice_get, slice_set, if◌then◌else◌}
 use Rattle.std.specs.Prelude.{option_map}
 use Rattle.std.proofs.lemmas.Bool.{and_parts}
 use Rattle.std.proofs.lemmas.Option.{same_Some}
@@ -10,7 +11,8 @@ use Rattle.c_memory.specs.Matching.{kept}
 use Rattle.c_memory.specs.Memory.{reaches, set_bytes, read_in, bytes_read, overwritten, written_in, after_write}
 use Rattle.c_memory.specs.Values.{AreBytes}
 use Rattle.simulation.specs.Alike.{Options, Covers, Blocks}
-use Rattle.simulation.specs.BlockLaws.{Paired, get_alike, set_alike, Finer, le_true, true_le, are_bytes_taken, are_bytes_dropped, are_bytes_joined, picked, inside_of, same_length}
+use Rattle.simulation.specs.BlockLaws.{Paired, get_alike, set_alike, Finer, le_true, true_le, are_bytes_taken, are_bytes_dropped, are_bytes_joined, picked}
+use Rattle.simulation.specs.BlockLaws.{inside_of, same_length}
 use Rattle.simulation.specs.MemoryLaw.{MemoryLaw, TurnsLaw}
 use Rattle.simulation.specs.Runs.{AreGood}
 

@@ -15,7 +15,8 @@ use Rattle.simulation.specs.Alike.{Given, Flows, Objects, Sim}
 use Rattle.simulation.specs.Carried.{Fixed, Carried, Shared, Marks, Unmarked, Scope, Within, inner}
 use Rattle.simulation.specs.Steps.{weaker}
 use Rattle.simulation.specs.ScopeLaws.{within_none}
-use Rattle.simulation.specs.ExpressionLaws.{name_sim, named_target_sim, set_named_sim, valued_sim, tested_sim, constant_sim, binary_sim, assign_sim, assigned_sim}
+use Rattle.simulation.specs.ExpressionLaws.{name_sim, named_target_sim, set_named_sim, valued_sim, tested_sim, constant_sim, binary_sim, assign_sim}
+use Rattle.simulation.specs.ExpressionLaws.{assigned_sim}
 use Rattle.simulation.specs.StatementLaws.{run_sim, return_sim, while_statement_sim, no_statements_sim, then_statement_sim}
 use Rattle.simulation.specs.FunctionLaws.{parameters_sim, call_of_alike, body_of_sim}
 use Rattle.simulation.specs.MemoryLaw.{MemoryLaw, TurnsLaw}

@@ -14,7 +14,8 @@ use Rattle.simulation.specs.Alike.{Relation, Options, Covers, Objects, Alike, Af
 use Rattle.simulation.specs.Carried.{MayBeSet, Fixed, InMemory, Carried, Shared, Marks, Unmarked, Number, Scope, Begun, inner, mark_of}
 use Rattle.simulation.specs.Steps.{weaker_ends, bind_sim, bind_same, pure_sim}
 use Rattle.simulation.specs.ScopeLaws.{object_sim}
-use Rattle.simulation.specs.ObjectLaws.{first_block, begin_apart_sim, begin_block_sim, begin_block_then, first_values, set_front_sim, with_block, AreFirst, fill_ends}
+use Rattle.simulation.specs.ObjectLaws.{first_block, begin_apart_sim, begin_block_sim, begin_block_then, first_values, set_front_sim, with_block, AreFirst}
+use Rattle.simulation.specs.ObjectLaws.{fill_ends}
 use Rattle.simulation.specs.FunctionLaws.{carried_front}
 
 -- an object is a block of its own: an array, or one whose address is taken

@@ -8,7 +8,8 @@ use Rattle.c_memory.specs.declared.value.Value.{Value}
 use Rattle.c_memory.specs.Memory.{ended_from}
 use Rattle.c_memory.specs.Functions.{types_of}
 use Rattle.c_memory.specs.MeaningState.{Binding, State, Out, Done, Turns, Undefined, Does, then_do, ◌>>=◌, ◌>>◌, pure, spend}
-use Rattle.c_memory.specs.Meaning.{Calls, Flow, Next, Broke, Continued, Returned, sequence, begin_parameter, begin_parameters, result, back_to, call_of, is_helper, with_function}
+use Rattle.c_memory.specs.Meaning.{Calls, Flow, Next, Broke, Continued, Returned, sequence, begin_parameter, begin_parameters, result, back_to, call_of}
+use Rattle.c_memory.specs.Meaning.{is_helper, with_function}
 use Rattle.address_taken.specs.Addressed.{takes_statements}
 use Rattle.simulation.specs.Alike.{Relation, Given, Arguments, Flows, Blocks, Objects, After, Ends, Sim, Back, CallsAlike, CallsTo}
 use Rattle.simulation.specs.Carried.{Way, MayBeSet, Fixed, Carried, Shared, Marks, Unmarked, Scope, inner, carried, mark_of}

@@ -12,7 +12,8 @@ use Rattle.c_memory.specs.MeaningState.{Location, Apart, Halves, InBlock, ◌>>=
 use Rattle.c_memory.specs.MeaningObjects.{HalfNamed, half_named, read_target, set_target}
 use Rattle.c_memory.specs.Meaning.{Calls, name_in, half_of, its_value, expression, target}
 use Rattle.simulation.specs.Alike.{Relation, Options, Given, Objects, Sim}
-use Rattle.simulation.specs.Carried.{Way, MayBeSet, Fixed, Held, InMemory, Carried, Shared, Mark, Marks, Unmarked, Values, Number, IsLong, IsLoose, half_type, HalfValues, Places, Kept, Scope, carried, mark_of}
+use Rattle.simulation.specs.Carried.{Way, MayBeSet, Fixed, Held, InMemory, Carried, Shared, Mark, Marks, Unmarked, Values, Number, IsLong, IsLoose, half_type}
+use Rattle.simulation.specs.Carried.{HalfValues, Places, Kept, Scope, carried, mark_of}
 use Rattle.simulation.specs.Steps.{bind_sim, pure_sim, defined_sim, give_sim}
 use Rattle.simulation.specs.ScopeLaws.{Changes, object_sim, change_sim}
 use Rattle.simulation.specs.ObjectLaws.{AreNamed}

@@ -6,7 +6,8 @@ use Rattle.std.proofs.lemmas.Option.{same_Some}
 use Rattle.std.proofs.lemmas.Slice.Eq.{bytes_eq-Decides}
 use Rattle.c_tree.specs.declared.types.CType.{CType}
 use Rattle.c_memory.specs.declared.value.Value.{Value}
-use Rattle.c_memory.specs.MeaningState.{Location, Apart, Halves, InBlock, Binding, State, ◌>>=◌, defined, found, half_at, object_of, changed, change, set_apart, ◌>>◌}
+use Rattle.c_memory.specs.MeaningState.{Location, Apart, Halves, InBlock, Binding, State, ◌>>=◌, defined, found, half_at, object_of, changed, change, set_apart}
+use Rattle.c_memory.specs.MeaningState.{◌>>◌}
 use Rattle.c_memory.specs.MeaningObjects.{half_named, value_named, value_at}
 use Rattle.simulation.specs.Alike.{Relation, Objects, Alike, After, Ends, Sim}
 use Rattle.simulation.specs.Carried.{Way, Carried, Shared, Added, Halved, Marks, InHalves, HalfAt, Scope, outer, is_named, carried}

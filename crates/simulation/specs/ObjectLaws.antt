@@ -1,5 +1,6 @@
 -- Laws of objects that begin and get values: apart from memory, in a block of both, or of the second unit alone.
-use Rattle.std.proofs.Common.{◌≡◌, ℕ, zero, suc, ◌<◌, ◌^◌, List, [], ◌∷◌, ◌++◌, map, length, Bool, true, false, not, Some, None, refl, sym, ap, ◌∙◌, subst, slice_get}
+use Rattle.std.proofs.Common.{◌≡◌, ℕ, zero, suc, ◌<◌, ◌^◌, List, [], ◌∷◌, ◌++◌, map, length, Bool, true, false, not, Some, None, refl, sym, ap, ◌∙◌, subst}
+use Rattle.std.proofs.Common.{slice_get}
 use Rattle.std.specs.Str.{bytes_eq}
 use Rattle.std.proofs.lemmas.List.{length-map}
 use Rattle.std.proofs.lemmas.Option.{same_Some}
@@ -10,10 +11,12 @@ use Rattle.c_memory.specs.declared.blocks.Block.{Block}
 use Rattle.c_memory.specs.declared.value.Value.{Value}
 use Rattle.c_memory.specs.Values.{AreBytes}
 use Rattle.c_memory.specs.MeaningObjects.{block_of, unset_bytes, is_const, Target, Named, target_of}
-use Rattle.c_memory.specs.MeaningState.{Location, Apart, Halves, InBlock, Binding, State, Out, Done, Turns, Undefined, Does, then_do, ◌>>=◌, ◌>>◌, changed, set_apart}
+use Rattle.c_memory.specs.MeaningState.{Location, Apart, Halves, InBlock, Binding, State, Out, Done, Turns, Undefined, Does, then_do, ◌>>=◌, ◌>>◌, changed}
+use Rattle.c_memory.specs.MeaningState.{set_apart}
 use Rattle.c_memory.specs.Meaning.{begin_object, first_value, filled, fill}
 use Rattle.simulation.specs.Alike.{Relation, Covers, is_first, one_less, Blocks, Stayed, Stays, Objects, Alike, After, Ends, Sim}
-use Rattle.simulation.specs.Carried.{Way, MayBeSet, Fixed, Held, InMemory, MayChange, Carried, Shared, Added, Halved, Mark, Marks, Unmarked, Values, Number, IsApart, IsLoose, AreSet, Places, Kept, Scope, Begun, outer, inner}
+use Rattle.simulation.specs.Carried.{Way, MayBeSet, Fixed, Held, InMemory, MayChange, Carried, Shared, Added, Halved, Mark, Marks, Unmarked, Values, Number}
+use Rattle.simulation.specs.Carried.{IsApart, IsLoose, AreSet, Places, Kept, Scope, Begun, outer, inner}
 use Rattle.simulation.specs.BlockLaws.{length_alike, add_alike, stays_same, begin_stays}
 use Rattle.simulation.specs.Steps.{later_ends}
 use Rattle.simulation.specs.ScopeLaws.{Binds}

@@ -14,7 +14,8 @@ use Rattle.c_memory.specs.declared.blocks.Block.{Block}
 use Rattle.c_memory.specs.declared.memory.Pointer.{Pointer}
 use Rattle.c_memory.specs.declared.memory.Pointer.TheVariants.{Null, At}
 use Rattle.c_memory.specs.declared.value.Value.{Value}
-use Rattle.c_memory.specs.MeaningValues.{is_alive, is_usable, at_distance, in_block, moved, stepped, stride, distance_in, in_one_block, equal_pointers, ordered, pointers_give, pointer_and_integer, integer_and_pointer, operate, holds, as_int, operate_before, converted_value, next}
+use Rattle.c_memory.specs.MeaningValues.{is_alive, is_usable, at_distance, in_block, moved, stepped, stride, distance_in, in_one_block, equal_pointers, ordered}
+use Rattle.c_memory.specs.MeaningValues.{pointers_give, pointer_and_integer, integer_and_pointer, operate, holds, as_int, operate_before, converted_value, next}
 use Rattle.simulation.specs.Alike.{Blocks}
 use Rattle.simulation.specs.BlockLaws.{Paired, get_alike}
 

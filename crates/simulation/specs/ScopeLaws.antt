@@ -1,13 +1,16 @@
 -- Laws of objects in scope: what a name finds, how an object changes, and scopes that are left.
-use Rattle.std.proofs.Common.{◌≡◌, ℕ, suc, ◌+◌, ◌-◌, List, [], ◌∷◌, ◌++◌, length, drop, Bool, true, false, ◌||◌, Option, Some, None, refl, sym, ap, ◌∙◌, subst, arith, zero-add, append_assoc, if◌then◌else◌}
+use Rattle.std.proofs.Common.{◌≡◌, ℕ, suc, ◌+◌, ◌-◌, List, [], ◌∷◌, ◌++◌, length, drop, Bool, true, false, ◌||◌, Option, Some, None, refl, sym, ap, ◌∙◌, subst}
+use Rattle.std.proofs.Common.{arith, zero-add, append_assoc, if◌then◌else◌}
 use Rattle.std.specs.Str.{bytes_eq}
 use Rattle.std.proofs.lemmas.List.{length-append}
 use Rattle.c_tree.specs.declared.types.CType.{CType}
 use Rattle.c_memory.specs.declared.value.Value.{Value}
 use Rattle.c_memory.specs.Memory.{ended_from}
-use Rattle.c_memory.specs.MeaningState.{Location, Apart, Binding, State, Out, Done, Turns, Undefined, Does, then_do, defined, found, object_of, changed, change, set_apart, leave, scoped}
+use Rattle.c_memory.specs.MeaningState.{Location, Apart, Binding, State, Out, Done, Turns, Undefined, Does, then_do, defined, found, object_of, changed, change}
+use Rattle.c_memory.specs.MeaningState.{set_apart, leave, scoped}
 use Rattle.simulation.specs.Alike.{Relation, Options, Blocks, Alike, After, Ends, Sim}
-use Rattle.simulation.specs.Carried.{Way, MayBeSet, Fixed, Held, InMemory, MayChange, Carried, Shared, Added, Halved, Mark, Marks, Kept, AddedAt, Both, IsNamed, InHalves, Scope, Within, outer, inner, is_named, carried, mark_of}
+use Rattle.simulation.specs.Carried.{Way, MayBeSet, Fixed, Held, InMemory, MayChange, Carried, Shared, Added, Halved, Mark, Marks, Kept, AddedAt, Both, IsNamed}
+use Rattle.simulation.specs.Carried.{InHalves, Scope, Within, outer, inner, is_named, carried, mark_of}
 use Rattle.simulation.specs.BlockLaws.{length_alike, ended_from_alike, stays_same, ended_stays}
 use Rattle.simulation.specs.Steps.{after_same}
 

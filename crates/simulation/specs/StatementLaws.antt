@@ -2,10 +2,12 @@
 use Rattle.std.proofs.Common.{◌≡◌, ℕ, List, [], ◌∷◌, ◌||◌, Option, Some, None, refl, sym, subst}
 use Rattle.c_text.specs.declared.tokens.Place.{Place}
 use Rattle.c_tree.specs.declared.types.CType.{CType}
-use Rattle.c_tree.specs.Tree.{Tree, Object, Statement, Statements, Optional, Declare, Run, Block, If, While, DoWhile, For, Break, Continue, Return, Empty, Absent, Present, NoStatements, Then}
+use Rattle.c_tree.specs.Tree.{Tree, Object, Statement, Statements, Optional, Declare, Run, Block, If, While, DoWhile, For, Break, Continue, Return, Empty}
+use Rattle.c_tree.specs.Tree.{Absent, Present, NoStatements, Then}
 use Rattle.c_memory.specs.declared.value.Value.{Value}
 use Rattle.c_memory.specs.MeaningState.{Binding, State, Does, ◌>>◌, pure, scoped}
-use Rattle.c_memory.specs.Meaning.{Calls, expression, its_value, condition, Later, declare_one, declare, Flow, Next, Broke, Continued, Returned, on_next, optional_condition, optional_value, act, optional_act, optional_body, sequence, no_more}
+use Rattle.c_memory.specs.Meaning.{Calls, expression, its_value, condition, Later, declare_one, declare, Flow, Next, Broke, Continued, Returned, on_next}
+use Rattle.c_memory.specs.Meaning.{optional_condition, optional_value, act, optional_act, optional_body, sequence, no_more}
 use Rattle.address_taken.specs.Addressed.{takes_optional, takes_declared, takes_statement, takes_statements}
 use Rattle.simulation.specs.Alike.{Relation, Flows, Objects, Alike, Sim}
 use Rattle.simulation.specs.Carried.{Carried, Marks, Scope, Within}

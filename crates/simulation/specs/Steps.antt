@@ -3,8 +3,10 @@ use Rattle.std.proofs.Common.{◌≡◌, ℕ, zero, suc, List, Bool, true, false
 use Rattle.c_tree.specs.declared.types.CType.{CType}
 use Rattle.c_memory.specs.declared.blocks.Block.{Block}
 use Rattle.c_memory.specs.declared.value.Value.{Value}
-use Rattle.c_memory.specs.MeaningState.{Binding, State, Out, Done, Turns, Undefined, Does, then_do, ◌>>=◌, pure, undefined, defined, from_memory, to_memory, spend_from, spend}
-use Rattle.c_memory.specs.Meaning.{Calls, choose, its_value, give, Flow, Next, Broke, Continued, Returned, on_next, on_loop, loops, loops_after, then_step, with_step}
+use Rattle.c_memory.specs.MeaningState.{Binding, State, Out, Done, Turns, Undefined, Does, then_do, ◌>>=◌, pure, undefined, defined, from_memory, to_memory}
+use Rattle.c_memory.specs.MeaningState.{spend_from, spend}
+use Rattle.c_memory.specs.Meaning.{Calls, choose, its_value, give, Flow, Next, Broke, Continued, Returned, on_next, on_loop, loops, loops_after, then_step}
+use Rattle.c_memory.specs.Meaning.{with_step}
 use Rattle.simulation.specs.Alike.{Relation, Options, Given, Arguments, Flows, Blocks, Stays, Objects, Alike, After, Ends, Sim, Back, CallsTo}
 use Rattle.simulation.specs.MemoryLaw.{TurnsLaw}
 use Rattle.simulation.specs.BlockLaws.{stays_same, stays_on}

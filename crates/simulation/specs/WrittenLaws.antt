@@ -1,5 +1,6 @@
 -- Laws of the relation of values between a source and the unit that is written for it: what operators, conversions, loads and stores ask.
-use Rattle.std.proofs.Common.{◌≡◌, ℕ, ◌<◌, ◌≤◌, ◌^◌, List, length, Bool, true, false, not, ◌&&◌, ◌==◌, Option, Some, None, refl, sym, ap, ◌∙◌, subst, arith, slice_get, nat_lt, nat_le, if◌then◌else◌}
+use Rattle.std.proofs.Common.{◌≡◌, ℕ, ◌<◌, ◌≤◌, ◌^◌, List, length, Bool, true, false, not, ◌&&◌, ◌==◌, Option, Some, None, refl, sym, ap, ◌∙◌, subst, arith}
+use Rattle.std.proofs.Common.{slice_get, nat_lt, nat_le, if◌then◌else◌}
 use Rattle.std.specs.Prelude.{ℤ, pos, ◌-ℤ◌, ◌*ℤ◌, neg_ℤ, int_div, option_map}
 use Rattle.std.specs.Option.{option_and_then}
 use Rattle.std.specs.Ordering.{int_eq}
@@ -24,7 +25,9 @@ use Rattle.c_memory.specs.declared.memory.Pointer.{Pointer}
 use Rattle.c_memory.specs.declared.memory.Pointer.TheVariants.{Null, At}
 use Rattle.c_memory.specs.declared.value.Value.{Value}
 use Rattle.c_memory.specs.Matching.{written_integer}
-use Rattle.c_memory.specs.MeaningValues.{is_alive, at_distance, in_block, moved, stepped, stride, distance_in, in_one_block, equal_pointers, is_same_pointer, is_usable, ordered, pointers_give, pointer_and_integer, integer_and_pointer, operate, holds, as_int, operate_before, converted_value}
+use Rattle.c_memory.specs.MeaningValues.{is_alive, at_distance, in_block, moved, stepped, stride, distance_in, in_one_block, equal_pointers, is_same_pointer}
+use Rattle.c_memory.specs.MeaningValues.{is_usable, ordered, pointers_give, pointer_and_integer, integer_and_pointer, operate, holds, as_int, operate_before}
+use Rattle.c_memory.specs.MeaningValues.{converted_value}
 use Rattle.simulation.specs.Alike.{Options, Blocks}
 use Rattle.simulation.specs.BlockLaws.{Paired, get_alike}
 use Rattle.simulation.specs.WrittenValues.{IsNear, WrittenValues}
