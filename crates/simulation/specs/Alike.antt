@@ -87,11 +87,15 @@ Stays before after = (k : ℕ) (b : Block) → slice_get before k ≡ Some b →
 abbrev pub Objects : Type 1
 Objects = List Binding → List Binding → Type 0
 
--- related objects, memories that cover each other, and as many turns left
+-- as many turns are left
+abbrev pub SameTurns : ℕ → ℕ → Type 0
+SameTurns m k = m ≡ k
+
+-- related objects, memories of which the second covers the first, and as many turns left
 pub record Alike (n : ℕ) (E : Objects) (s t : State) : Type 0 where
   pub objects : E s.objects t.objects
   pub memory : Blocks n s.memory t.memory
-  pub left : s.left ≡ t.left
+  pub left : SameTurns s.left t.left
 
 -- after a step of the second run from t
 pub record After (n : ℕ) (F : Objects) (t u v : State) : Type 0 where
@@ -114,14 +118,14 @@ pub record Sim {A B : Type 0} (n : ℕ) (V : A → B → Type 0) (E F : Objects)
 
 -- ---- calls
 
--- memories that cover each other, and as many turns left; what is in scope doesn't count
+-- memories of which the second covers the first, and as many turns left; what is in scope doesn't count
 abbrev pub Worlds : ℕ → State → State → Type 0
-Worlds n s t = Blocks n s.memory t.memory × (s.left ≡ t.left)
+Worlds n s t = Blocks n s.memory t.memory × SameTurns s.left t.left
 
 -- after a call from s and t: what is in scope hasn't changed
 pub record Back (n : ℕ) (s t u v : State) : Type 0 where
   pub memory : Blocks n u.memory v.memory
-  pub left : u.left ≡ v.left
+  pub left : SameTurns u.left v.left
   pub objects : u.objects ≡ s.objects
   pub others : v.objects ≡ t.objects
   pub stays : Stays t.memory v.memory

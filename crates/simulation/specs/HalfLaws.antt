@@ -1,5 +1,5 @@
 -- Laws of the halves of pairs: of objects that both units have, apart from memory.
-use Rattle.std.proofs.Common.{◌≡◌, ℕ, zero, suc, ◌+◌, ◌*◌, List, [], ◌∷◌, ◌++◌, take, drop, length, Bool, true, false, Option, Some, None, refl, sym, ap, ◌∙◌, subst, arith}
+use Rattle.std.proofs.Common.{◌≡◌, ℕ, zero, suc, List, ◌++◌, take, drop, length, Option, Some, None, refl, sym, ap, ◌∙◌, subst, arith}
 use Rattle.std.specs.Prelude.{option_map}
 use Rattle.std.proofs.lemmas.List.{length-append, length-take, length-drop}
 use Rattle.std.proofs.Math.Seq.{take-length, take-append_seam, drop-append_seam}
@@ -8,13 +8,14 @@ use Rattle.c_tree.specs.declared.types.CType.{CType}
 use Rattle.c_tree.specs.Tree.{Tree, Node, Name, Half}
 use Rattle.c_memory.specs.declared.value.Value.{Value}
 use Rattle.c_memory.specs.Matching.{half}
-use Rattle.c_memory.specs.MeaningState.{Location, Apart, Halves, InBlock, Binding, Does, ◌>>=◌, defined, half_at, joined, with_half, object_of}
-use Rattle.c_memory.specs.MeaningObjects.{Target, Named, HalfNamed, half_named, read_target, set_half, set_target}
-use Rattle.c_memory.specs.Meaning.{Calls, name_in, half_of, half_expression, half_target, its_value, give, expression, target}
+use Rattle.c_memory.specs.MeaningState.{Location, Apart, Halves, InBlock, ◌>>=◌, half_at, joined, with_half, object_of}
+use Rattle.c_memory.specs.MeaningObjects.{HalfNamed, half_named, read_target, set_target}
+use Rattle.c_memory.specs.Meaning.{Calls, name_in, half_of, its_value, expression, target}
 use Rattle.simulation.specs.Alike.{Relation, Options, Given, Objects, Sim}
-use Rattle.simulation.specs.Carried.{Way, MayBeSet, Fixed, Held, InMemory, Carried, Shared, Mark, Marks, Unmarked, Values, Number, IsLong, IsLoose, half_type, HalfValues, Places, AreSet, Kept, Scope, carried, mark_of}
+use Rattle.simulation.specs.Carried.{Way, MayBeSet, Fixed, Held, InMemory, Carried, Shared, Mark, Marks, Unmarked, Values, Number, IsLong, IsLoose, half_type}
+use Rattle.simulation.specs.Carried.{HalfValues, Places, Kept, Scope, carried, mark_of}
 use Rattle.simulation.specs.Steps.{bind_sim, pure_sim, defined_sim, give_sim}
-use Rattle.simulation.specs.ScopeLaws.{Binds, Changes, object_sim, change_sim}
+use Rattle.simulation.specs.ScopeLaws.{Changes, object_sim, change_sim}
 use Rattle.simulation.specs.ObjectLaws.{AreNamed}
 
 module _ (n : ℕ) (R : Relation) (t : CType) where
@@ -116,7 +117,9 @@ module _ (n : ℕ) (R : Relation) (t : CType) where
 
   one_half : (k : ℕ) (l m : Location) → BothHalves l m → Options (HalfValues R t) (half_at k l) (half_at k m)
   one_half zero l m h = h.low
-  one_half (suc k) l m h = subst (λ o. Options (HalfValues R t) o (half_at (suc k) m)) (half_above k l) (subst (λ o. Options (HalfValues R t) (half_at 1 l) o) (half_above k m) h.high)
+  one_half (suc k) l m h =
+      subst (λ o. Options (HalfValues R t) o (half_at (suc k) m)) (half_above k l)
+      (subst (λ o. Options (HalfValues R t) (half_at 1 l) o) (half_above k m) h.high)
 
   -- ---- a half that is set
 
@@ -129,7 +132,8 @@ module _ (n : ℕ) (R : Relation) (t : CType) where
   pair_long : (c d : List ℕ) → length c ≡ 16 → length d ≡ 16 → length (c ++ d) ≡ 32
   pair_long c d e f = rw (length-append) (omega (arith, e, f))
 
-  joined_places : (o u p q : Option (List ℕ)) → Joins → Options (HalfValues R t) o p → Options (HalfValues R t) u q → IsLong p → IsLong q → Places R t (joined o u) (joined p q)
+  joined_places : (o u p q : Option (List ℕ)) → Joins → Options (HalfValues R t) o p → Options (HalfValues R t) u q → IsLong p → IsLong q
+      → Places R t (joined o u) (joined p q)
   joined_places (Some a) (Some b) (Some c) (Some d) joins h k e f = joins a b c d h k
   joined_places (Some a) None (Some c) (Some d) joins h k e f = (pair_long c d e f, subst (λ z. HalfValues R t a z) (sym (low_of c d e)) h, tt)
   joined_places (Some a) None (Some c) None joins h k e f = ((e, tt), h, tt)
@@ -152,11 +156,16 @@ module _ (n : ℕ) (R : Relation) (t : CType) where
     -- half of an object, whose other half need not be set
     pub half_named_sim : (way : Way) (k : ℕ) (x : List ℕ) (u : CType) → carried x scope ≡ Some (Shared way x t u) → IsOutside way → Splits
         → Sim n (R (half_type t)) here here (object_of x >>= half_named k) (object_of x >>= half_named k)
-    half_named_sim way k x u is out splits = bind_sim (object_sim R scope ks way x t u is) (λ b c h. defined_sim (option_map Value.R16 (half_at k b.location)) (option_map Value.R16 (half_at k c.location))
-        (in_registers (half_at k b.location) (half_at k c.location) (one_half k b.location c.location (kept_halves way (mark_of x scope ks) b.location c.location out splits h.1))))
+    half_named_sim way k x u is out splits =
+        bind_sim (object_sim R scope ks way x t u is) (λ b c h. defined_sim (option_map Value.R16 (half_at k b.location))
+        (option_map Value.R16 (half_at k c.location))
+        (in_registers (half_at k b.location) (half_at k c.location) (one_half k b.location c.location
+        (kept_halves way (mark_of x scope ks) b.location c.location out splits h.1))))
 
-    pub half_sim : (p q p' q' : Place) (v w v' w' : CType) (c d : Calls) (way : Way) (k : ℕ) (x : List ℕ) (u : CType) → carried x scope ≡ Some (Shared way x t u) → IsOutside way → Splits
-        → Sim n (Given R (half_type t)) here here (expression (Node p v (Half (Node p' v' (Name x)) k)) c) (expression (Node q w (Half (Node q' w' (Name x)) k)) d)
+    pub half_sim : (p q p' q' : Place) (v w v' w' : CType) (c d : Calls) (way : Way) (k : ℕ) (x : List ℕ) (u : CType)
+        → carried x scope ≡ Some (Shared way x t u) → IsOutside way → Splits
+        → Sim n (Given R (half_type t)) here here (expression (Node p v (Half (Node p' v' (Name x)) k)) c)
+        (expression (Node q w (Half (Node q' w' (Name x)) k)) d)
     half_sim p q p' q' v w v' w' c d way k x u is out splits = give_sim R (half_type t) (half_named_sim way k x u is out splits)
 
     pub read_half_sim : (way : Way) (k : ℕ) (x : List ℕ) (u v w : CType) → carried x scope ≡ Some (Shared way x t u) → IsOutside way → Splits
@@ -164,10 +173,12 @@ module _ (n : ℕ) (R : Relation) (t : CType) where
     read_half_sim way k x u v w is out splits = half_named_sim way k x u is out splits
 
     -- and a half gets a vector
-    pub set_half_sim : (k : ℕ) (x : List ℕ) (u v w : CType) (a b : List ℕ) → carried x scope ≡ Some (Shared MayBeSet x t u) → Splits → Joins → AreLong → HalfValues R t a b
+    pub set_half_sim : (k : ℕ) (x : List ℕ) (u v w : CType) (a b : List ℕ) → carried x scope ≡ Some (Shared MayBeSet x t u) → Splits → Joins → AreLong
+        → HalfValues R t a b
         → Sim n ◌≡◌ here here (set_target v (HalfNamed x k) (Value.R16 a)) (set_target w (HalfNamed x k) (Value.R16 b))
     set_half_sim k x u v w a b is splits joins long h = change_sim R scope ks x (with_half k a) (with_half k b)
-        (subst (λ o. Changes R (with_half k a) (with_half k b) o (mark_of x scope ks)) (sym is) (λ l m i. half_set k a b l m joins long h (places_halves l m splits i)))
+        (subst (λ o. Changes R (with_half k a) (with_half k b) o (mark_of x scope ks)) (sym is)
+        (λ l m i. half_set k a b l m joins long h (places_halves l m splits i)))
 
     -- half of a named object, as what an assignment sets
     pub half_target_sim : (p q : Place) (v w : CType) (c d : Calls) (k : ℕ) (x : List ℕ) (a b : Tree) → Sim n (AreNamed x) here here (target a c) (target b d)
@@ -175,7 +186,8 @@ module _ (n : ℕ) (R : Relation) (t : CType) where
     half_target_sim p q v w c d k x a b h = bind_sim h (λ y z i. rw (i.first, i.second) (pure_sim (HalfNamed x k) (HalfNamed x k) (refl, refl)))
 
   -- half of a value that isn't a named object's
-  pub value_half_sim : (E F : Objects) (p q : Place) (v w : CType) (c d : Calls) (k : ℕ) (a b : Tree) → name_in a ≡ None → name_in b ≡ None → Splits → Sim n (R t) E F (its_value (expression a c)) (its_value (expression b d))
+  pub value_half_sim : (E F : Objects) (p q : Place) (v w : CType) (c d : Calls) (k : ℕ) (a b : Tree) → name_in a ≡ None → name_in b ≡ None → Splits
+      → Sim n (R t) E F (its_value (expression a c)) (its_value (expression b d))
       → Sim n (Given R (half_type t)) E F (expression (Node p v (Half a k)) c) (expression (Node q w (Half b k)) d)
   value_half_sim E F p q v w c d k a b e f splits h = rw (e, f) (give_sim R (half_type t) (bind_sim h (λ y z i. at k y z (splits y z i))))
     where

@@ -1,13 +1,14 @@
 pub mod Alike
 pub mod Carried
 pub mod BlockLaws
+pub mod Runs
+pub mod MemoryLaw
 pub mod Steps
 pub mod ScopeLaws
 pub mod HeldLaws
 pub mod ObjectLaws
 pub mod StatementLaws
 pub mod FunctionLaws
-pub mod Runs
 pub mod UnitLaws
 pub mod ExpressionLaws
 pub mod WrittenValues
@@ -19,3 +20,5 @@ pub mod WrittenLaws
 pub mod WrittenMemory
 pub mod StoreLaws
 pub mod HalfLaws
+pub mod HalvedLaws
+pub mod RegisterLaws

@@ -1,5 +1,6 @@
 -- Laws of objects that begin and get values: apart from memory, in a block of both, or of the second unit alone.
-use Rattle.std.proofs.Common.{◌≡◌, ℕ, zero, suc, ◌+◌, ◌<◌, ◌^◌, List, [], ◌∷◌, ◌++◌, map, length, Bool, true, false, not, Option, Some, None, refl, sym, ap, ◌∙◌, subst, arith, slice_get, if◌then◌else◌}
+use Rattle.std.proofs.Common.{◌≡◌, ℕ, zero, suc, ◌<◌, ◌^◌, List, [], ◌∷◌, ◌++◌, map, length, Bool, true, false, not, Some, None, refl, sym, ap, ◌∙◌, subst}
+use Rattle.std.proofs.Common.{slice_get}
 use Rattle.std.specs.Str.{bytes_eq}
 use Rattle.std.proofs.lemmas.List.{length-map}
 use Rattle.std.proofs.lemmas.Option.{same_Some}
@@ -10,13 +11,15 @@ use Rattle.c_memory.specs.declared.blocks.Block.{Block}
 use Rattle.c_memory.specs.declared.value.Value.{Value}
 use Rattle.c_memory.specs.Values.{AreBytes}
 use Rattle.c_memory.specs.MeaningObjects.{block_of, unset_bytes, is_const, Target, Named, target_of}
-use Rattle.c_memory.specs.MeaningState.{Location, Apart, Halves, InBlock, Binding, State, Out, Done, Turns, Undefined, Does, then_do, ◌>>=◌, ◌>>◌, pure, changed, change, set_apart}
+use Rattle.c_memory.specs.MeaningState.{Location, Apart, Halves, InBlock, Binding, State, Out, Done, Turns, Undefined, Does, then_do, ◌>>=◌, ◌>>◌, changed}
+use Rattle.c_memory.specs.MeaningState.{set_apart}
 use Rattle.c_memory.specs.Meaning.{begin_object, first_value, filled, fill}
-use Rattle.simulation.specs.Alike.{Relation, Options, Covers, is_first, one_less, Blocks, Stayed, Stays, Objects, Alike, After, Ends, Sim}
-use Rattle.simulation.specs.Carried.{Way, MayBeSet, Fixed, Held, InMemory, MayChange, Carried, Shared, Added, Halved, Mark, Marks, Unmarked, Values, Number, IsApart, IsLoose, AreSet, Places, Kept, Both, IsNamed, Scope, Begun, outer, inner, carried, mark_of}
-use Rattle.simulation.specs.BlockLaws.{length_alike, add_alike, stays_same, stays_on, begin_stays}
+use Rattle.simulation.specs.Alike.{Relation, Covers, is_first, one_less, Blocks, Stayed, Stays, Objects, Alike, After, Ends, Sim}
+use Rattle.simulation.specs.Carried.{Way, MayBeSet, Fixed, Held, InMemory, MayChange, Carried, Shared, Added, Halved, Mark, Marks, Unmarked, Values, Number}
+use Rattle.simulation.specs.Carried.{IsApart, IsLoose, AreSet, Places, Kept, Scope, Begun, outer, inner}
+use Rattle.simulation.specs.BlockLaws.{length_alike, add_alike, stays_same, begin_stays}
 use Rattle.simulation.specs.Steps.{later_ends}
-use Rattle.simulation.specs.ScopeLaws.{Binds, set_apart_sim}
+use Rattle.simulation.specs.ScopeLaws.{Binds}
 
 -- ---- steps of one unit alone
 
@@ -33,28 +36,34 @@ Behind n G (Done a s) t = Alike n G s t
 Behind n G Turns t = ⊥
 Behind n G Undefined t = Unit {0}
 
-behind_ends : {A B C : Type 0} (n : ℕ) (G H : Objects) (W : B → C → Type 0) (k : A → Does B) (q : Does C) (o : Out A) (t : State) → Behind n G o t → ((a : A) → Sim n W G H (k a) q) → Ends W (After n H t) (then_do o k) (q t)
+behind_ends : {A B C : Type 0} (n : ℕ) (G H : Objects) (W : B → C → Type 0) (k : A → Does B) (q : Does C) (o : Out A) (t : State) → Behind n G o t
+    → ((a : A) → Sim n W G H (k a) q) → Ends W (After n H t) (then_do o k) (q t)
 behind_ends n G H W k q (Done a s) t h i = (i a).by s t h
 behind_ends n G H W k q Turns t h i = absurd h
 behind_ends n G H W k q Undefined t h i = tt
 
 module _ {n : ℕ} {E G H : Objects} where
-  pub ahead_sim : {A B C : Type 0} {W : A → C → Type 0} (p : Does A) (q : Does B) (k : B → Does C) → ((s t : State) → Alike n E s t → Ahead n G q s t) → ((b : B) → Sim n W G H p (k b)) → Sim n W E H p (q >>= k)
+  pub ahead_sim : {A B C : Type 0} {W : A → C → Type 0} (p : Does A) (q : Does B) (k : B → Does C) → ((s t : State) → Alike n E s t → Ahead n G q s t)
+      → ((b : B) → Sim n W G H p (k b)) → Sim n W E H p (q >>= k)
   ahead_sim {W = W} p q k h i = record {
     by = λ s t e.
         let a = h s t e in
-        subst (λ o. Ends W (After n H t) (p s) (then_do o k)) (sym a.done) (later_ends n W H t a.state (p s) (k a.value a.state) a.after.stays ((i a.value).by s a.state a.after.alike));
+        subst (λ o. Ends W (After n H t) (p s) (then_do o k)) (sym a.done) (later_ends n W H t a.state (p s) (k a.value a.state) a.after.stays
+        ((i a.value).by s a.state a.after.alike));
   }
 
-  pub behind_sim : {A B C : Type 0} {W : B → C → Type 0} (p : Does A) (k : A → Does B) (q : Does C) → ((s t : State) → Alike n E s t → Behind n G (p s) t) → ((a : A) → Sim n W G H (k a) q) → Sim n W E H (p >>= k) q
+  pub behind_sim : {A B C : Type 0} {W : B → C → Type 0} (p : Does A) (k : A → Does B) (q : Does C) → ((s t : State) → Alike n E s t → Behind n G (p s) t)
+      → ((a : A) → Sim n W G H (k a) q) → Sim n W E H (p >>= k) q
   behind_sim {W = W} p k q h i = record { by = λ s t e. behind_ends n G H W k q (p s) t (h s t e) i }
 
 -- whatever the mark is
-pub some_sim : {n : ℕ} {A B : Type 0} {V : A → B → Type 0} (E : Mark → Objects) (F : Objects) (p : Does A) (q : Does B) → ((mark : Mark) → Sim n V (E mark) F p q) → Sim n V (λ bs cs. (mark : Mark) × E mark bs cs) F p q
+pub some_sim : {n : ℕ} {A B : Type 0} {V : A → B → Type 0} (E : Mark → Objects) (F : Objects) (p : Does A) (q : Does B)
+    → ((mark : Mark) → Sim n V (E mark) F p q) → Sim n V (λ bs cs. (mark : Mark) × E mark bs cs) F p q
 some_sim E F p q h = record { by = λ s t e. (h e.objects.0).by s t (record { objects = e.objects.1; memory = e.memory; left = e.left }) }
 
 -- more is known of the objects before
-pub stronger : {n : ℕ} {A B : Type 0} {V : A → B → Type 0} (E G F : Objects) (p : Does A) (q : Does B) → ((bs cs : List Binding) → E bs cs → G bs cs) → Sim n V G F p q → Sim n V E F p q
+pub stronger : {n : ℕ} {A B : Type 0} {V : A → B → Type 0} (E G F : Objects) (p : Does A) (q : Does B) → ((bs cs : List Binding) → E bs cs → G bs cs)
+    → Sim n V G F p q → Sim n V E F p q
 stronger E G F p q k h = record { by = λ s t e. h.by s t (record { objects = k s.objects t.objects e.objects; memory = e.memory; left = e.left }) }
 
 -- ---- objects that begin
@@ -72,21 +81,38 @@ module _ {n : ℕ} (R : Relation) (scope : List Carried) (ks : Marks) where
   pub begin_apart_sim : (o o' : Object) (p q : Bool) → o'.name ≡ o.name → p ≡ false → q ≡ false
       → Sim n ◌≡◌ (Scope R scope ks) (Scope R (Shared MayBeSet o.name o.ty o'.ty ∷ scope) (inner Unmarked ks)) (begin_object o p) (begin_object o' q)
   begin_apart_sim o o' p q e f g = rw (f, g) (record {
-    by = λ s t h. (refl, record { alike = record { objects = (record { name = refl; other_name = e; ty = refl; other_ty = refl }, tt, h.objects); memory = h.memory; left = h.left }; stays = stays_same t.memory });
+    by = λ s t h. (
+      refl,
+      record {
+        alike = record {
+          objects = (record { name = refl; other_name = e; ty = refl; other_ty = refl }, tt, h.objects);
+          memory =
+              h.memory;
+          left = h.left;
+        };
+        stays = stays_same t.memory;
+      },
+    );
   })
 
   -- in the second alone
-  pub begin_added : (o : Object) (q : Bool) → q ≡ false → (s t : State) → Alike n (Scope R scope ks) s t → Ahead n (Scope R (Added o.name o.ty ∷ scope) (inner Unmarked ks)) (begin_object o q) s t
+  pub begin_added : (o : Object) (q : Bool) → q ≡ false → (s t : State) → Alike n (Scope R scope ks) s t
+      → Ahead n (Scope R (Added o.name o.ty ∷ scope) (inner Unmarked ks)) (begin_object o q) s t
   begin_added o q e s t h = rw e (record {
     value = tt;
     state = record t { objects = record { name = o.name; ty = o.ty; location = Apart None } ∷ t.objects };
     done = refl;
-    after = record { alike = record { objects = (record { name = refl; ty = refl }, tt, h.objects); memory = h.memory; left = h.left }; stays = stays_same t.memory };
+    after = record {
+      alike = record { objects = (record { name = refl; ty = refl }, tt, h.objects); memory = h.memory; left = h.left };
+      stays = stays_same
+          t.memory;
+    };
   })
 
   -- a pair, and two objects for its halves
   pub begin_halved_sim : (o l h : Object) (half : CType) (p q r : Bool) → l.ty ≡ h.ty → p ≡ false → q ≡ false → r ≡ false
-      → Sim n ◌≡◌ (Scope R scope ks) (Scope R (Halved o.name o.ty l.name h.name half l.ty ∷ scope) (inner Unmarked ks)) (begin_object o p) (begin_object l q >> begin_object h r)
+      → Sim n ◌≡◌ (Scope R scope ks) (Scope R (Halved o.name o.ty l.name h.name half l.ty ∷ scope) (inner Unmarked ks)) (begin_object o p)
+      (begin_object l q >> begin_object h r)
   begin_halved_sim o l h half p q r same e f g = rw (e, f, g) (record {
     by = λ s t i. (
       refl,
@@ -112,15 +138,25 @@ module _ {n : ℕ} (R : Relation) (scope : List Carried) (ks : Marks) where
   })
 
   -- A block in both. What follows may use that the block of the second is the last one.
-  pub begin_block_then : {A B : Type 0} (V : A → B → Type 0) (F : Objects) (o o' : Object) (p q : Bool) (f : Does A) (g : Does B) → o'.name ≡ o.name → p ≡ true → q ≡ true → Covers false (first_block o) (first_block o')
-      → ((k : ℕ) (s t : State) → Alike n (Scope R (Shared InMemory o.name o.ty o'.ty ∷ scope) (inner (Number k) ks)) s t → slice_get t.memory k ≡ Some (first_block o') → Ends V (After n F t) (f s) (g t))
+  pub begin_block_then : {A B : Type 0} (V : A → B → Type 0) (F : Objects) (o o' : Object) (p q : Bool) (f : Does A) (g : Does B) → o'.name ≡ o.name
+      → p ≡ true → q ≡ true → Covers false (first_block o) (first_block o')
+      → ((k : ℕ) (s t : State) → Alike n (Scope R (Shared InMemory o.name o.ty o'.ty ∷ scope) (inner (Number k) ks)) s t → slice_get t.memory k ≡ Some
+      (first_block o') → Ends V (After n F t) (f s) (g t))
       → Sim n V (Scope R scope ks) F (begin_object o p >> f) (begin_object o' q >> g)
   begin_block_then V F o o' p q f g e i j c h = rw (i, j) (record {
     by = λ s t a.
-        let after = record t { objects = record { name = o'.name; ty = o'.ty; location = InBlock (length t.memory) } ∷ t.objects; memory = t.memory ++ (first_block o' ∷ []) } in
+        let after = record t {
+          objects = record { name = o'.name; ty = o'.ty; location = InBlock (length t.memory) } ∷ t.objects;
+          memory = t.memory ++
+              (first_block o' ∷ []);
+        } in
         later_ends n V F t after _ _ (begin_stays t.memory (first_block o'))
         (h (length t.memory) _ after (record {
-          objects = (record { name = refl; other_name = e; ty = refl; other_ty = refl }, (ap InBlock (length_alike n s.memory t.memory a.memory), refl), a.objects);
+          objects = (
+            record { name = refl; other_name = e; ty = refl; other_ty = refl },
+            (ap InBlock (length_alike n s.memory t.memory a.memory), refl),
+            a.objects,
+          );
           memory = add_alike n s.memory t.memory (first_block o) (first_block o') a.memory c;
           left = a.left;
         }) (get_last t.memory (first_block o')));
@@ -186,7 +222,8 @@ pub record AreNamed (x : List ℕ) (p q : Target) : Type 0 where
   pub first : p ≡ Named x
   pub second : q ≡ Named x
 
-pub named_targets : (R : Relation) (way : Way) (x : List ℕ) (s t : CType) (mark : Mark) (b c : Binding) → MayChange way → Binds R way x s t mark b c → AreNamed x (target_of b) (target_of c)
+pub named_targets : (R : Relation) (way : Way) (x : List ℕ) (s t : CType) (mark : Mark) (b c : Binding) → MayChange way → Binds R way x s t mark b c
+    → AreNamed x (target_of b) (target_of c)
 named_targets R way x s t mark b c may h =
     let a = kept_apart R way s mark b.location c.location may h.1 in
     record { first = target_apart b b.location refl a.first ∙ ap Named h.0.name; second = target_apart c c.location refl a.second ∙ ap Named h.0.other_name }
@@ -195,7 +232,8 @@ pub record AreSetApart (x : List ℕ) (v w : Value) (b c : Binding) : Type 0 whe
   pub first : first_value b v ≡ set_apart x v
   pub second : first_value c w ≡ set_apart x w
 
-pub first_values : (R : Relation) (way : Way) (x : List ℕ) (s t : CType) (mark : Mark) (v w : Value) (b c : Binding) → MayChange way → Binds R way x s t mark b c → AreSetApart x v w b c
+pub first_values : (R : Relation) (way : Way) (x : List ℕ) (s t : CType) (mark : Mark) (v w : Value) (b c : Binding) → MayChange way
+    → Binds R way x s t mark b c → AreSetApart x v w b c
 first_values R way x s t mark v w b c may h =
     let a = kept_apart R way s mark b.location c.location may h.1 in
     record {
@@ -204,13 +242,18 @@ first_values R way x s t mark v w b c may h =
     }
 
 -- the innermost object gets a value, and is set from then on
-front_fixed : (R : Relation) (x : List ℕ) (s t : CType) (way : Way) (scope : List Carried) (ks : Marks) (v w : Value) (bs cs : List Binding) → R s v w → Scope R (Shared way x s t ∷ scope) ks bs cs
+front_fixed : (R : Relation) (x : List ℕ) (s t : CType) (way : Way) (scope : List Carried) (ks : Marks) (v w : Value) (bs cs : List Binding) → R s v w
+    → Scope R (Shared way x s t ∷ scope) ks bs cs
     → Scope R (Shared Fixed x s t ∷ scope) ks (changed x (λ _. Apart (Some v)) bs) (changed x (λ _. Apart (Some w)) cs)
 front_fixed R x s t way scope ks v w (b ∷ bs) (c ∷ cs) h k =
     let mine : bytes_eq x x ≡ true = (bytes_eq-Decides x x).1 refl in
     let one : bytes_eq x b.name ≡ true = ap (bytes_eq x) k.0.name ∙ mine in
     let other : bytes_eq x c.name ≡ true = ap (bytes_eq x) k.0.other_name ∙ mine in
-    rw (one, other) (record { name = k.0.name; other_name = k.0.other_name; ty = k.0.ty; other_ty = k.0.other_ty }, (v, w, record { first = refl; second = refl; values = h }), k.2)
+    rw (one, other) (
+      record { name = k.0.name; other_name = k.0.other_name; ty = k.0.ty; other_ty = k.0.other_ty },
+      (v, w, record { first = refl; second = refl; values = h }),
+      k.2,
+    )
 front_fixed R x s t way scope ks v w [] cs h k = absurd k
 front_fixed R x s t way scope ks v w (b ∷ bs) [] h k = absurd k
 
@@ -219,7 +262,11 @@ pub set_front_sim : {n : ℕ} (R : Relation) (way : Way) (x : List ℕ) (s t : C
 set_front_sim R way x s t scope ks v w h = record {
   by = λ y z e. (
     refl,
-    record { alike = record { objects = front_fixed R x s t way scope ks v w y.objects z.objects h e.objects; memory = e.memory; left = e.left }; stays = stays_same z.memory },
+    record {
+      alike = record { objects = front_fixed R x s t way scope ks v w y.objects z.objects h e.objects; memory = e.memory; left = e.left };
+      stays =
+          stays_same z.memory;
+    },
   );
 }
 
@@ -227,37 +274,48 @@ set_front_sim R way x s t scope ks v w h = record {
 set_places : (R : Relation) (s : CType) (v w : Value) (l m : Location) → AreSet R s v w l m → Places R s l m
 set_places R s v w l m h = subst (λ z. Places R s z m) (sym h.first) (subst (λ z. Places R s (Apart (Some v)) z) (sym h.second) h.values)
 
-pub loosened : (R : Relation) (x : List ℕ) (s t : CType) (scope : List Carried) (ks : Marks) (bs cs : List Binding) → Scope R (Shared Fixed x s t ∷ scope) ks bs cs → Scope R (Shared MayBeSet x s t ∷ scope) ks bs cs
+pub loosened : (R : Relation) (x : List ℕ) (s t : CType) (scope : List Carried) (ks : Marks) (bs cs : List Binding)
+    → Scope R (Shared Fixed x s t ∷ scope) ks bs cs → Scope R (Shared MayBeSet x s t ∷ scope) ks bs cs
 loosened R x s t scope ks (b ∷ bs) (c ∷ cs) h = (h.0, set_places R s h.1.0 h.1.1 b.location c.location h.1.2, h.2)
 loosened R x s t scope ks [] cs h = absurd h
 loosened R x s t scope ks (b ∷ bs) [] h = absurd h
 
 -- the value of an added object, and that it is forgotten
-added_front : (R : Relation) (x : List ℕ) (t : CType) (scope : List Carried) (ks : Marks) (v w : Value) (bs cs : List Binding) → Scope R (Added x t ∷ scope) ks bs cs
+added_front : (R : Relation) (x : List ℕ) (t : CType) (scope : List Carried) (ks : Marks) (v w : Value) (bs cs : List Binding)
+    → Scope R (Added x t ∷ scope) ks bs cs
     → Scope R (Added x t ∷ scope) (inner (Values v w) (outer ks)) bs (changed x (λ _. Apart (Some w)) cs)
 added_front R x t scope ks v w bs (c ∷ cs) k =
     let mine : bytes_eq x c.name ≡ true = ap (bytes_eq x) k.0.name ∙ (bytes_eq-Decides x x).1 refl in
     rw mine (record { name = k.0.name; ty = k.0.ty }, refl, k.2)
 added_front R x t scope ks v w bs [] k = absurd k
 
-pub set_added : {n : ℕ} (R : Relation) (x : List ℕ) (t : CType) (scope : List Carried) (ks : Marks) (v w : Value) (s u : State) → Alike n (Scope R (Added x t ∷ scope) ks) s u
+pub set_added : {n : ℕ} (R : Relation) (x : List ℕ) (t : CType) (scope : List Carried) (ks : Marks) (v w : Value) (s u : State)
+    → Alike n (Scope R (Added x t ∷ scope) ks) s u
     → Ahead n (Scope R (Added x t ∷ scope) (inner (Values v w) (outer ks))) (set_apart x w) s u
 set_added R x t scope ks v w s u e = record {
   value = tt;
   state = record u { objects = changed x (λ _. Apart (Some w)) u.objects };
   done = refl;
-  after = record { alike = record { objects = added_front R x t scope ks v w s.objects u.objects e.objects; memory = e.memory; left = e.left }; stays = stays_same u.memory };
+  after = record {
+    alike = record { objects = added_front R x t scope ks v w s.objects u.objects e.objects; memory = e.memory; left = e.left };
+    stays =
+        stays_same u.memory;
+  };
 }
 
-pub forgotten : (R : Relation) (x : List ℕ) (t : CType) (scope : List Carried) (ks : Marks) (bs cs : List Binding) → Scope R (Added x t ∷ scope) ks bs cs → Scope R (Added x t ∷ scope) (inner Unmarked (outer ks)) bs cs
+pub forgotten : (R : Relation) (x : List ℕ) (t : CType) (scope : List Carried) (ks : Marks) (bs cs : List Binding) → Scope R (Added x t ∷ scope) ks bs cs
+    → Scope R (Added x t ∷ scope) (inner Unmarked (outer ks)) bs cs
 forgotten R x t scope ks bs (c ∷ cs) h = (h.0, tt, h.2)
 forgotten R x t scope ks bs [] h = absurd h
 
 -- ---- values of blocks
 
 -- what follows a step may use that a block of the second that lived still does
-pub with_block : {A B C D : Type 0} (n : ℕ) (V : A → B → Type 0) (W : C → D → Type 0) (F G : Objects) (t : State) (k : ℕ) (b : Block) (o : Out A) (r : Out B) (f : A → Does C) (g : B → Does D) → slice_get t.memory k ≡ Some b → b.alive ≡ true
-    → Ends V (After n F t) o r → ((v : A) (w : B) (u y : State) (c : Block) → V v w → Alike n F u y → slice_get y.memory k ≡ Some c → Stayed b c → Ends W (After n G y) (f v u) (g w y))
+pub with_block : {A B C D : Type 0} (n : ℕ) (V : A → B → Type 0) (W : C → D → Type 0) (F G : Objects) (t : State) (k : ℕ) (b : Block) (o : Out A) (r : Out B)
+    (f : A → Does C) (g : B → Does D)
+    → slice_get t.memory k ≡ Some b → b.alive ≡ true
+    → Ends V (After n F t) o r → ((v : A) (w : B) (u y : State) (c : Block) → V v w → Alike n F u y → slice_get y.memory k ≡ Some c → Stayed b c → Ends W
+    (After n G y) (f v u) (g w y))
     → Ends W (After n G t) (then_do o f) (then_do r g)
 with_block n V W F G t k b Undefined r f g e live h i = tt
 with_block n V W F G t k b Turns Turns f g e live h i = tt
@@ -274,7 +332,8 @@ pub record AreFirst (all : List ℕ) : Type 0 where
   pub bytes : AreBytes (map Some all)
   pub size : length all < 2 ^ 63
 
-covers_filled : (x : Bool) (b c : Block) (bytes : List ℕ) → AreFirst bytes → Covers x b c → Covers x (record b { bytes = map Some bytes }) (record c { bytes = map Some bytes })
+covers_filled : (x : Bool) (b c : Block) (bytes : List ℕ) → AreFirst bytes → Covers x b c
+    → Covers x (record b { bytes = map Some bytes }) (record c { bytes = map Some bytes })
 covers_filled x b c bytes f h =
     record { bytes = refl; alive = h.alive; align = h.align; writable = h.writable; are_bytes = f.bytes; size = rw (length-map) f.size; kept = h.kept }
 
@@ -293,13 +352,29 @@ filled_stays [] k bytes c e f i b g live = absurd (cc)
 filled_stays (x ∷ w) zero bytes c e f zero b g live =
     let one : x ≡ c = same_Some x c e in
     let same : x ≡ b = same_Some x b g in
-    let long : length (map Some bytes) ≡ length b.bytes = map_long bytes ∙ f ∙ ap (λ z. length z.bytes) (sym one ∙ same) in
-    (record x { bytes = map Some bytes }, refl, record { alive = ap (λ z. z.alive) same ∙ live; size = long; writable = ap (λ z. z.writable) same; align = ap (λ z. z.align) same })
+    let long : length (map Some bytes) ≡ length b.bytes = map_long bytes ∙ f ∙ ap (λ z. length z.bytes) (sym one ∙ same) in (
+      record x { bytes = map Some bytes },
+      refl,
+      record {
+        alive = ap (λ z. z.alive) same ∙ live;
+        size = long;
+        writable = ap (λ z. z.writable) same;
+        align = ap
+            (λ z. z.align) same;
+      },
+    )
 filled_stays (x ∷ w) zero bytes c e f (suc i) b g live = (b, g, record { alive = live; size = refl; writable = refl; align = refl })
 filled_stays (x ∷ w) (suc k) bytes c e f zero b g live = (b, g, record { alive = live; size = refl; writable = refl; align = refl })
 filled_stays (x ∷ w) (suc k) bytes c e f (suc i) b g live = filled_stays w k bytes c e f i b g live
 
 -- a block of both gets the same bytes, as many as it has
-pub fill_ends : (n : ℕ) (E : Objects) (k : ℕ) (bytes : List ℕ) (u y : State) (c : Block) → AreFirst bytes → Alike n E u y → slice_get y.memory k ≡ Some c → length bytes ≡ length c.bytes → Ends ◌≡◌ (After n E y) (fill k bytes u) (fill k bytes y)
-fill_ends n E k bytes u y c f a e long =
-    (refl, record { alike = record { objects = a.objects; memory = filled_alike n u.memory y.memory k bytes f a.memory; left = a.left }; stays = filled_stays y.memory k bytes c e long })
+pub fill_ends : (n : ℕ) (E : Objects) (k : ℕ) (bytes : List ℕ) (u y : State) (c : Block) → AreFirst bytes → Alike n E u y → slice_get y.memory k ≡ Some c
+    → length bytes ≡ length c.bytes → Ends ◌≡◌ (After n E y) (fill k bytes u) (fill k bytes y)
+fill_ends n E k bytes u y c f a e long = (
+  refl,
+  record {
+    alike = record { objects = a.objects; memory = filled_alike n u.memory y.memory k bytes f a.memory; left = a.left };
+    stays = filled_stays
+        y.memory k bytes c e long;
+  },
+)

@@ -1,5 +1,5 @@
 -- Laws of equal values: what operators give for them in memories of which one covers the other is the same.
-use Rattle.std.proofs.Common.{◌≡◌, ℕ, List, length, Bool, true, false, not, ◌&&◌, ◌==◌, Option, Some, None, refl, sym, ap, ◌∙◌, subst, slice_get, nat_lt, nat_le, if◌then◌else◌}
+use Rattle.std.proofs.Common.{◌≡◌, ℕ, List, Bool, true, false, not, ◌&&◌, ◌==◌, Option, Some, None, refl, ap, slice_get, nat_lt, nat_le, if◌then◌else◌}
 use Rattle.std.specs.Prelude.{ℤ, ◌*ℤ◌, pos, neg_ℤ, option_map}
 use Rattle.std.specs.Option.{option_and_then}
 use Rattle.lane_core.specs.declared.number.IntType.TheVariants as int
@@ -14,8 +14,9 @@ use Rattle.c_memory.specs.declared.blocks.Block.{Block}
 use Rattle.c_memory.specs.declared.memory.Pointer.{Pointer}
 use Rattle.c_memory.specs.declared.memory.Pointer.TheVariants.{Null, At}
 use Rattle.c_memory.specs.declared.value.Value.{Value}
-use Rattle.c_memory.specs.MeaningValues.{is_alive, is_usable, at_distance, in_block, moved, stepped, stride, distance_in, in_one_block, is_same_pointer, equal_pointers, ordered, pointers_give, pointer_and_integer, integer_and_pointer, operate, holds, as_int, operate_before, converted_value, next}
-use Rattle.simulation.specs.Alike.{Covers, Blocks}
+use Rattle.c_memory.specs.MeaningValues.{is_alive, is_usable, at_distance, in_block, moved, stepped, stride, distance_in, in_one_block, equal_pointers, ordered}
+use Rattle.c_memory.specs.MeaningValues.{pointers_give, pointer_and_integer, integer_and_pointer, operate, holds, as_int, operate_before, converted_value, next}
+use Rattle.simulation.specs.Alike.{Blocks}
 use Rattle.simulation.specs.BlockLaws.{Paired, get_alike}
 
 alive_paired : (o r : Option Block) → Paired o r → is_alive o ≡ is_alive r
@@ -58,7 +59,8 @@ module _ (n : ℕ) (m w : List Block) (h : Blocks n m w) where
   equal_same : (wanted : Bool) (p q : Pointer) → equal_pointers m wanted p q ≡ equal_pointers w wanted p q
   equal_same wanted p q = rw (usable_same p, usable_same q) refl
 
-  difference_same : (size : Option ℕ) (p q : Pointer) → option_and_then (λ n. in_one_block m (distance_in n) p q) size ≡ option_and_then (λ n. in_one_block w (distance_in n) p q) size
+  difference_same : (size : Option ℕ) (p q : Pointer)
+      → option_and_then (λ n. in_one_block m (distance_in n) p q) size ≡ option_and_then (λ n. in_one_block w (distance_in n) p q) size
   difference_same None p q = refl
   difference_same (Some k) p q = one_block_same (distance_in k) p q
 

@@ -1,5 +1,6 @@
 -- Laws of numbers of a source in memory: they have the same bytes in the unit that is written for it.
-use Rattle.std.proofs.Common.{◌≡◌, ℕ, zero, suc, ◌<◌, ◌≤◌, ◌^◌, ◌/◌, ◌%◌, List, [], ◌∷◌, map, length, replicate, Bool, true, false, not, ◌&&◌, Option, Some, None, refl, sym, ap, ◌∙◌, subst, arith, nat_le, if◌then◌else◌}
+use Rattle.std.proofs.Common.{◌≡◌, ℕ, zero, suc, ◌<◌, ◌^◌, ◌/◌, ◌%◌, List, map, length, Bool, true, false, not, ◌&&◌, Option, Some, None, refl, sym, ap, ◌∙◌}
+use Rattle.std.proofs.Common.{arith, nat_le, if◌then◌else◌}
 use Rattle.std.specs.Prelude.{ℤ, pos}
 use Rattle.std.specs.Option.{option_and_then}
 use Rattle.std.proofs.lemmas.List.{length-replicate}
@@ -11,16 +12,14 @@ use Rattle.scalar_core.specs.Numbers.{num_of, is_boolean}
 use Rattle.scalar_core.specs.TwosComplement.{bits_of}
 use Rattle.const_imm.specs.Sizes.{integer_size}
 use Rattle.c_tree.specs.declared.types.CType.{CType}
-use Rattle.c_memory.specs.declared.blocks.Block.{Block}
-use Rattle.c_memory.specs.declared.memory.Pointer.{Pointer}
 use Rattle.c_memory.specs.declared.value.Value.{Value}
 use Rattle.c_memory.specs.Matching.{written_integer}
 use Rattle.c_memory.specs.Memory.{bytes_read}
 use Rattle.c_memory.specs.Values.{AreBytes}
-use Rattle.c_memory.specs.MeaningObjects.{integer_bytes, encoded, decoded, decoded_integer, load_from, unset_bytes}
-use Rattle.simulation.specs.Alike.{Options, Blocks}
-use Rattle.simulation.specs.BlockLaws.{read_alike, finer_same}
-use Rattle.simulation.specs.ObjectLaws.{AreFirst}
+use Rattle.c_memory.specs.MeaningObjects.{integer_bytes, encoded, decoded, decoded_integer, unset_bytes}
+use Rattle.simulation.specs.Alike.{Options}
+use Rattle.simulation.specs.BlockLaws.{finer_same}
+use Rattle.simulation.specs.MemoryLaw.{MemoryLaw}
 use Rattle.simulation.specs.WrittenValues.{WrittenValues}
 use Rattle.simulation.specs.ExpressionLaws.{SameBytes, Loads, Stores}
 use Rattle.simulation.specs.DeclareLaws.{AreFirstOf, FirstBytes}
@@ -81,7 +80,9 @@ bits_written int.ULLong z = refl
 bytes_written : (t : IntType) (a b : Num) → a.value ≡ b.value → integer_bytes t a ≡ integer_bytes (written_integer t) b
 bytes_written t a b e = rw (e, size_written t, bits_written t b.value) refl
 
-decoded_at : (t : IntType) (bits : ℕ) (v : Bool) → Options (WrittenValues (CType.Int t)) (if v then None else Some (Value.Int (num_of t (pos bits)))) (if v then None else Some (Value.Int (num_of (written_integer t) (pos bits))))
+decoded_at : (t : IntType) (bits : ℕ) (v : Bool)
+    → Options (WrittenValues (CType.Int t)) (if v then None else Some (Value.Int (num_of t (pos bits))))
+    (if v then None else Some (Value.Int (num_of (written_integer t) (pos bits))))
 decoded_at t bits true = tt
 decoded_at t bits false = num_written t t (pos bits)
 
@@ -90,10 +91,13 @@ decoded_written t bits = rw (boolean_written t) (decoded_at t bits (is_boolean t
 
 module _ (n : ℕ) where
   -- what is read
-  pub written_loads : (t : IntType) → Loads n WrittenValues (CType.Int t) (CType.Int (written_integer t))
-  written_loads t m w p h = rw (size_written t) (at (bytes_read m p (integer_size t) (integer_size t)) (bytes_read w p (integer_size t) (integer_size t)) (read_alike n m w p (integer_size t) (integer_size t) (integer_size t) (finer_same (integer_size t)) h))
+  pub written_loads : MemoryLaw → (t : IntType) → Loads n WrittenValues (CType.Int t) (CType.Int (written_integer t))
+  written_loads law t m w p h =
+      rw (size_written t) (at (bytes_read m p (integer_size t) (integer_size t)) (bytes_read w p (integer_size t) (integer_size t))
+      (law.reads n m w p (integer_size t) (integer_size t) (integer_size t) (finer_same (integer_size t)) h))
     where
-      at : (o r : Option (List ℕ)) → Options ◌≡◌ o r → Options (WrittenValues (CType.Int t)) (option_and_then (decoded (CType.Int t)) o) (option_and_then (decoded (CType.Int (written_integer t))) r)
+      at : (o r : Option (List ℕ)) → Options ◌≡◌ o r
+          → Options (WrittenValues (CType.Int t)) (option_and_then (decoded (CType.Int t)) o) (option_and_then (decoded (CType.Int (written_integer t))) r)
       at None r k = tt
       at (Some a) (Some b) k = rw k (decoded_written t (value b))
       at (Some a) None k = absurd k
@@ -115,7 +119,8 @@ module _ (n : ℕ) where
       unset : length (unset_bytes (CType.Int (written_integer t))) ≡ integer_size t
       unset = length-replicate (integer_size (written_integer t)) None ∙ size_written t
 
-      at : (u v : Value) → AreNumbers u v → Options (AreFirstOf (CType.Int (written_integer t))) (encoded (CType.Int t) u) (encoded (CType.Int (written_integer t)) v)
+      at : (u v : Value) → AreNumbers u v
+          → Options (AreFirstOf (CType.Int (written_integer t))) (encoded (CType.Int t) u) (encoded (CType.Int (written_integer t)) v)
       at u v (numbers a b e f) = record {
         same = bytes_written t a b f;
         first = record { bytes = digits_are_bytes (integer_size t) (bits_of t a.value); size = rw (long a) (small_size t) };

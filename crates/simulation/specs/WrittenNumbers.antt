@@ -52,14 +52,16 @@ common_plain s t = subst (λ u. written_integer u ≡ u) (promoted_common s t) (
 left_written : (o : BinOp) (s t : IntType) → left_type o (written_integer s) (written_integer t) ≡ left_type o s t
 left_written o s t = at (is_shift o)
   where
-    at : (v : Bool) → (if v then promoted (written_integer s) else common_of (written_integer s) (written_integer t)) ≡ (if v then promoted s else common_of s t)
+    at : (v : Bool)
+        → (if v then promoted (written_integer s) else common_of (written_integer s) (written_integer t)) ≡ (if v then promoted s else common_of s t)
     at true = promoted_written s
     at false = common_written s t
 
 right_written : (o : BinOp) (s t : IntType) → right_type o (written_integer s) (written_integer t) ≡ right_type o s t
 right_written o s t = at (is_shift o)
   where
-    at : (v : Bool) → (if v then promoted (written_integer t) else common_of (written_integer s) (written_integer t)) ≡ (if v then promoted t else common_of s t)
+    at : (v : Bool)
+        → (if v then promoted (written_integer t) else common_of (written_integer s) (written_integer t)) ≡ (if v then promoted t else common_of s t)
     at true = promoted_written t
     at false = common_written s t
 
@@ -73,16 +75,20 @@ left_at o s t s' t' e f = rw (e, f) (sym (left_written o s t))
 right_at : (o : BinOp) (s t s' t' : IntType) → s' ≡ written_integer s → t' ≡ written_integer t → right_type o s t ≡ right_type o s' t'
 right_at o s t s' t' e f = rw (e, f) (sym (right_written o s t))
 
-pub binary_written : (o : BinOp) (a b a' b' : Num) → a'.ty ≡ written_integer a.ty → b'.ty ≡ written_integer b.ty → a.value ≡ a'.value → b.value ≡ b'.value → binary_of o a b ≡ binary_of o a' b'
+pub binary_written : (o : BinOp) (a b a' b' : Num) → a'.ty ≡ written_integer a.ty → b'.ty ≡ written_integer b.ty → a.value ≡ a'.value → b.value ≡ b'.value
+    → binary_of o a b ≡ binary_of o a' b'
 unfolding binary_of
 binary_written o a b a' b' e f g h =
-    ap (λ x. operate o x (converted (right_type o a.ty b.ty) b)) (converted_by_value (left_type o a.ty b.ty) a a' g ∙ ap (λ t. converted t a') (left_at o a.ty b.ty a'.ty b'.ty e f))
-    ∙ ap (operate o (converted (left_type o a'.ty b'.ty) a')) (converted_by_value (right_type o a.ty b.ty) b b' h ∙ ap (λ t. converted t b') (right_at o a.ty b.ty a'.ty b'.ty e f))
+    ap (λ x. operate o x (converted (right_type o a.ty b.ty) b)) (converted_by_value (left_type o a.ty b.ty) a a' g ∙ ap (λ t. converted t a')
+    (left_at o a.ty b.ty a'.ty b'.ty e f))
+    ∙ ap (operate o (converted (left_type o a'.ty b'.ty) a')) (converted_by_value (right_type o a.ty b.ty) b b' h ∙ ap (λ t. converted t b')
+    (right_at o a.ty b.ty a'.ty b'.ty e f))
 
 pub binary_plain : (o : BinOp) (s t : IntType) → written_integer (binary_type o s t) ≡ binary_type o s t
 binary_plain o s t = at (is_comparison o) (is_shift o)
   where
-    at : (v w : Bool) → written_integer (if v then Int else (if w then promoted s else common_of s t)) ≡ (if v then Int else (if w then promoted s else common_of s t))
+    at : (v w : Bool)
+        → written_integer (if v then Int else (if w then promoted s else common_of s t)) ≡ (if v then Int else (if w then promoted s else common_of s t))
     at true w = refl
     at false true = promoted_plain s
     at false false = common_plain s t

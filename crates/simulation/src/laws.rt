@@ -1,18 +1,12 @@
-//! What holds of two units whose functions correspond, and of memories of which one covers the other.
+//! What the laws in `specs/` ask of memories and of turns, and what whole runs of two units have in common.
 
-ghost use Rattle.std.specs.Prelude.{◌≡◌, ◌+◌, ◌≤◌, ℕ, List, length};
+ghost use Rattle.std.specs.Prelude.{◌+◌, ℕ, List, length};
 ghost use Rattle.c_tree.specs.Tree.{External};
-ghost use Rattle.c_memory.specs.Matching.{written_type, MemoriesMatch};
+ghost use Rattle.c_memory.specs.Matching.{written_type};
 ghost use Rattle.c_memory.specs.Meaning.{functions, table_blocks, table_objects, Calls};
-ghost use Rattle.c_memory.specs.MeaningState.{spend, State};
-ghost use Rattle.c_memory.specs.Memory.{after_write, bytes_read};
-ghost use Rattle.c_memory.specs.Values.{AreBytes};
 ghost use Rattle.c_memory.specs.Written.{DoesTheSame, UnitsMatch};
-ghost use Rattle.c_memory.specs.declared.blocks.Block.{Block};
-ghost use Rattle.c_memory.specs.declared.memory.Pointer.{Pointer};
-ghost use Rattle.simulation.specs.Alike.{Blocks, Ends, Options, Worlds};
-ghost use Rattle.simulation.specs.BlockLaws.{Finer};
-ghost use Rattle.simulation.specs.Runs.{AreGood, Runs, SetBytes};
+ghost use Rattle.simulation.specs.MemoryLaw.{MemoryLaw, TurnsLaw};
+ghost use Rattle.simulation.specs.Runs.{AreGood, Runs};
 ghost use Rattle.simulation.specs.WrittenValues.{WrittenValues};
 
 /// A source and a unit with its tables and functions do the same, where the calls of each function of both are alike over any calls of those
@@ -24,16 +18,12 @@ pub fn units_that_correspond_do_the_same()
 {}
 
 /// What may be read in a memory gives the same in one that covers it, also with an alignment that is finer, and what may be written to it
-/// leaves memories of which one covers the other. The first n blocks are equal in bytes, alignment and writability.
+/// leaves memories of which the second covers the first. The blocks that are compared are equal in bytes, alignment and writability.
 pub fn a_memory_that_covers_serves()
-    ensures read { (n : ℕ) (memory : List Block) (other : List Block) (p : Pointer) (align : ℕ) (finer : ℕ) (size : ℕ) →
-        Blocks n memory other → Finer finer align → Options ◌≡◌ (bytes_read memory p align size) (bytes_read other p finer size) }
-    ensures write { (n : ℕ) (memory : List Block) (other : List Block) (p : Pointer) (align : ℕ) (finer : ℕ) (bytes : List ℕ) →
-        Blocks n memory other → Finer finer align → SetBytes bytes → Options (Blocks n) (after_write memory p align bytes) (after_write other p finer bytes) }
-    ensures first { (n : ℕ) (memory : List Block) (other : List Block) → Blocks n memory other → MemoriesMatch n memory other }
+    ensures { MemoryLaw }
 {}
 
-/// Runs that are alike spend their turns alike: where the first has none left, the second has none.
-pub fn turns_are_spent_alike()
-    ensures { (n : ℕ) (s : State) (t : State) → Worlds n s t → Ends ◌≡◌ (Worlds n) (spend s) (spend t) }
+/// Runs that are alike have as many turns left, neither more nor fewer.
+pub fn turns_are_counted_alike()
+    ensures { TurnsLaw }
 {}

@@ -6,5 +6,5 @@ mod laws;
 
 pub use c_memory::Value;
 pub use laws::{
-    a_memory_that_covers_serves, turns_are_spent_alike, units_that_correspond_do_the_same,
+    a_memory_that_covers_serves, turns_are_counted_alike, units_that_correspond_do_the_same,
 };
