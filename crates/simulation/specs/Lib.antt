@@ -22,3 +22,4 @@ pub mod StoreLaws
 pub mod HalfLaws
 pub mod HalvedLaws
 pub mod RegisterLaws
+pub mod NestLaws
