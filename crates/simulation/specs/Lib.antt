@@ -23,3 +23,4 @@ pub mod HalfLaws
 pub mod HalvedLaws
 pub mod RegisterLaws
 pub mod NestLaws
+pub mod TableLaws
