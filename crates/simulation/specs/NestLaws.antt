@@ -63,6 +63,7 @@ split_used Turns f used more = refl
 split_used Undefined f used more = refl
 
 mutual
+  -- a compound operand; a simple one, with its tree in the second unit and its register; or a row of nests
   pub data Nest : Type 0 where
     Operand : Nest
     Simple : Tree → List ℕ → Nest
@@ -101,6 +102,7 @@ consumed_on _ _ os2 _ _ a2 u2 (skipped os os' r all used h) k = skipped os os2 r
 
 module _ (neon : List ℕ → List (List ℕ) → List ℕ) where
   mutual
+    -- the register of a nest for the registers of its compound operands, where `neon` is what the rows give
     pub data ValueOf : Nest → List (List ℕ) → List ℕ → Type 0 where
       of_operand : (r : List ℕ) → ValueOf Operand (r ∷ []) r
       of_simple : (b : Tree) (r : List ℕ) → ValueOf (Simple b r) [] r
