@@ -1,2 +1,3 @@
 mod Covering
 mod Example
+mod TableExample

@@ -28,7 +28,7 @@ use Rattle.simulation.specs.Carried.{Kept, Scope, carried, mark_of}
 use Rattle.simulation.specs.BlockLaws.{write_stays, finer_same}
 use Rattle.simulation.specs.MemoryLaw.{MemoryLaw}
 use Rattle.simulation.specs.Steps.{bind_sim, bind_same, pure_sim, undefined_sim, defined_sim, from_memory_sim, to_memory_sim, choose_sim, its_value_sim}
-use Rattle.simulation.specs.Steps.{give_sim, call_sim, source_as, written_as}
+use Rattle.simulation.specs.Steps.{give_sim, call_sim, first_as, second_as}
 use Rattle.simulation.specs.ScopeLaws.{Binds, object_sim, set_apart_sim}
 use Rattle.simulation.specs.HeldLaws.{plain_value}
 use Rattle.simulation.specs.ObjectLaws.{named_targets, AreNamed}
@@ -402,7 +402,7 @@ module _ (n : ℕ) (R : Relation) where
         → Sim n (R s) E F (its_value (expression a c)) (its_value (expression b d)) → ((x y : Value) → R s x y → Options (R r) (Some x) (converted_value t y))
         → Sim n (R r) E F (its_value (expression a c)) (its_value (expression (Node q z' (Cast t b j)) d))
     added_cast_sim E F q s z' r t a b j other h k =
-        source_as (λ x. same_value (its_value (expression a c) x)) (written_as (λ y. cast_bind (expression b d y))
+        first_as (λ x. same_value (its_value (expression a c) x)) (second_as (λ y. cast_bind (expression b d y))
         (bind_sim h (λ u v e. defined_sim (Some u) (converted_value t v) (k u v e))))
       where
         same_value : (o : Out Value) → then_do o (λ v. pure v) ≡ o

@@ -22,3 +22,5 @@ pub mod StoreLaws
 pub mod HalfLaws
 pub mod HalvedLaws
 pub mod RegisterLaws
+pub mod NestLaws
+pub mod TableLaws

@@ -14,11 +14,11 @@ use Rattle.simulation.specs.Carried.{InMemory, Carried, Shared, Marks, Number}
 -- none of the first's that follow has its name.
 pub data Runs (n : ℕ) (R : Relation) (tables others : List Binding) : Calls → Calls → List Definition → List Definition → Type 0 where
   NoFunctions : (c d : Calls) → Runs n R tables others c d [] []
-  AndBoth : (c d : Calls) (f g : Definition) (fs gs : List Definition) → g.name ≡ f.name
-      → CallsAlike n R (types_of f.params) f.result (call_of tables f c) (call_of others g d) →
+  AndBoth : (c d : Calls) (f g : Definition) (fs gs : List Definition) → g.name ≡ f.name →
+      CallsAlike n R (types_of f.params) f.result (call_of tables f c) (call_of others g d) →
       Runs n R tables others (with_function tables f c) (with_function others g d) fs gs → Runs n R tables others c d (f ∷ fs) (g ∷ gs)
-  AndHelper : (c d : Calls) (g : Definition) (fs gs : List Definition) → none_named g.name fs ≡ true
-      → Runs n R tables others c (with_function others g d) fs gs → Runs n R tables others c d fs (g ∷ gs)
+  AndHelper : (c d : Calls) (g : Definition) (fs gs : List Definition) → none_named g.name fs ≡ true →
+      Runs n R tables others c (with_function others g d) fs gs → Runs n R tables others c d fs (g ∷ gs)
 
 -- each block has bytes, and fewer than 2 ^ 63 of them
 abbrev pub AreGood : List Block → Type 0

@@ -191,20 +191,20 @@ module _ {n : ℕ} where
         → Sim n (Flows R ty) E E body body' → Sim n V E E p q → Sim n (Flows R ty) E E (with_step body p) (with_step body' q)
     with_step_sim R ty b k = bind_sim b (λ f g e. then_step_sim R ty f g e k)
 
-    -- a written step in another form
-    pub written_as : {A B : Type 0} {V : A → B → Type 0} {F : Objects} {p : Does A} {q r : Does B} → ((s : State) → q s ≡ r s) → Sim n V E F p q
+    -- a step of the second unit in another form
+    pub second_as : {A B : Type 0} {V : A → B → Type 0} {F : Objects} {p : Does A} {q r : Does B} → ((s : State) → q s ≡ r s) → Sim n V E F p q
         → Sim n V E F p r
-    written_as {V = V} {F = F} {p = p} same h = record { by = λ s t e. subst (λ o. Ends V (After n F t) (p s) o) (same t) (h.by s t e) }
+    second_as {V = V} {F = F} {p = p} same h = record { by = λ s t e. subst (λ o. Ends V (After n F t) (p s) o) (same t) (h.by s t e) }
 
     -- a call from wherever it is made
     pub call_sim : (R : Relation) (c d : Calls) (f g : List ℕ) (ts : List CType) (ty : CType) (vs ws : List Value) → CallsTo n R c d f ts ty g
         → Arguments R ts vs ws → Sim n (Given R ty) E E (c f vs) (d g ws)
     call_sim R c d f g ts ty vs ws h k = record { by = λ s t e. back_ends n R ty E s t (c f vs s) (d g ws t) e.objects (h.by vs ws s t k (e.memory, e.left)) }
 
-    -- a step of the source in another form
-    pub source_as : {A B : Type 0} {V : A → B → Type 0} {F : Objects} {p r : Does A} {q : Does B} → ((s : State) → p s ≡ r s) → Sim n V E F p q
+    -- a step of the first unit in another form
+    pub first_as : {A B : Type 0} {V : A → B → Type 0} {F : Objects} {p r : Does A} {q : Does B} → ((s : State) → p s ≡ r s) → Sim n V E F p q
         → Sim n V E F r q
-    source_as {V = V} {F = F} {q = q} same h = record { by = λ s t e. subst (λ o. Ends V (After n F t) o (q t)) (same s) (h.by s t e) }
+    first_as {V = V} {F = F} {q = q} same h = record { by = λ s t e. subst (λ o. Ends V (After n F t) o (q t)) (same s) (h.by s t e) }
 
 module _ {n : ℕ} {E F : Objects} where
   -- what an expression gives, as a value and back

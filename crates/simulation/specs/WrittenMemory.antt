@@ -30,6 +30,10 @@ digits_are_bytes : (w v : ℕ) → AreBytes (map Some (digits w v))
 digits_are_bytes zero v = tt
 digits_are_bytes (suc w) v = (let h : v % 256 < 256 = omega arith in h, digits_are_bytes w (v / 256))
 
+-- so are those of a number at its type
+pub integer_set_bytes : (t : IntType) (a : Num) → AreBytes (map Some (integer_bytes t a))
+integer_set_bytes t a = digits_are_bytes (integer_size t) (bits_of t a.value)
+
 digits_long : (w v : ℕ) → length (digits w v) ≡ w
 digits_long zero v = refl
 digits_long (suc w) v = ap suc (digits_long w (v / 256))

@@ -6,13 +6,14 @@ ghost use Rattle.c_memory.specs.Matching.{written_type};
 ghost use Rattle.c_memory.specs.Meaning.{functions, table_blocks, table_objects, Calls};
 ghost use Rattle.c_memory.specs.Written.{DoesTheSame, UnitsMatch};
 ghost use Rattle.simulation.specs.MemoryLaw.{MemoryLaw, TurnsLaw};
-ghost use Rattle.simulation.specs.Runs.{AreGood, Runs};
+ghost use Rattle.simulation.specs.Runs.{Runs};
+ghost use Rattle.simulation.specs.TableLaws.{AreShort};
 ghost use Rattle.simulation.specs.WrittenValues.{WrittenValues};
 
 /// A source and a unit with its tables and functions do the same, where the calls of each function of both are alike over any calls of those
 /// before it, and where the second has helpers beside them.
 pub fn units_that_correspond_do_the_same()
-    ensures { (rows : Calls) (other_rows : Calls) (unit : List External) (other : List External) → UnitsMatch written_type unit other → AreGood (table_blocks unit) →
+    ensures { (rows : Calls) (other_rows : Calls) (unit : List External) (other : List External) → UnitsMatch written_type unit other → AreShort unit →
         ((m : ℕ) → Runs (m + length (table_blocks unit)) WrittenValues (table_objects m unit) (table_objects m other) rows other_rows (functions unit) (functions other)) →
         DoesTheSame rows other_rows written_type unit other }
 {}
