@@ -1,5 +1,5 @@
 -- Look-ups by name.
-use Rattle.std.proofs.Common.{◌≡◌, ◌∙◌, ℕ, Bool, true, false, cond, List, [], ◌∷◌, Option, Some, None, is_some, Vec, nat_eq, refl, sym, ap, true≢false}
+use Rattle.std.proofs.Common.{◌≡◌, ◌∙◌, ℕ, Bool, true, false, cond, List, [], ◌∷◌, Option, Some, None, Vec, nat_eq, refl, sym, ap, true≢false}
 use Rattle.std.specs.Cmp.Lexicographic.{pointwise, bytes_decides}
 use Rattle.std.specs.Str.{bytes_eq}
 use Rattle.std.specs.declared.alloc.Global.{Global}
@@ -53,7 +53,7 @@ inserted (e ∷ es) k o x = go (bytes_eq k.items e.0.items) refl (inserted es k 
     go : (t : Bool) → bytes_eq k.items e.0.items ≡ t →
         standing_for (insert_entry (λ p q. pointwise nat_eq p.items q.items) es k o) x ≡ with_macro k.items o (standing_for es) x →
         standing_for (cond t ((e.0, o) ∷ es) (e ∷ insert_entry (λ p q. pointwise nat_eq p.items q.items) es k o)) x ≡ with_macro k.items o (standing_for
-            (e ∷ es)) x
+        (e ∷ es)) x
     go true p h = there (bytes_eq x e.0.items) (bytes_eq x k.items) e.1 o (standing_for es x) (same_name x k.items e.0.items p)
     go false p h = past (bytes_eq x e.0.items) (bytes_eq x k.items) e.1 o (standing_for es x) (standing_for
         (insert_entry (λ p q. pointwise nat_eq p.items q.items) es k o) x) (other_name x k.items e.0.items p) h
