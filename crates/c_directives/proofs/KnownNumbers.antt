@@ -1,5 +1,6 @@
 -- The numbers of the refusals of a text.
-use Rattle.std.proofs.Common.{◌≡◌, ℕ, Bool, true, false, cond, not, ◌||◌, List, [], ◌∷◌, Option, Some, None, is_some, Result, Ok, Err, take, slice_get, refl, subst}
+use Rattle.std.proofs.Common.{◌≡◌, ℕ, Bool, true, false, cond, not, ◌||◌, List, [], ◌∷◌, Option, Some, None, is_some, Result, Ok, Err, take, slice_get, refl}
+use Rattle.std.proofs.Common.{subst}
 use Rattle.std.specs.Str.{bytes_eq}
 use Rattle.std.specs.List.{list_any}
 use Rattle.c_text.specs.declared.tokens.Token.{Token}
@@ -24,7 +25,8 @@ use Rattle.c_directives.specs.Predefined.{predefined}
 use Rattle.c_directives.specs.Words.{word_of}
 use Rattle.c_directives.specs.Operands.{resolved}
 use Rattle.c_directives.specs.Directives.{State, Then, go_on, unless, is_live, within, turned, is_defined, alone, else_group, in_innermost, unclosed, pragma}
-use Rattle.c_directives.specs.Directives.{tested, valued, counted, ended, expanded, expression, condition, first_test, begin, elif, later, obeyed, other, by_word, directive, made_of, text}
+use Rattle.c_directives.specs.Directives.{tested, valued, counted, ended, expanded, expression, condition, first_test, begin, elif, later, obeyed, other}
+use Rattle.c_directives.specs.Directives.{by_word, directive, made_of, text}
 use Rattle.c_directives.specs.Directives.{part_passed, expand_parts, rules_of, expansion}
 use Rattle.c_directives.specs.Numbers.{is_expansion_number, ExpansionNumbers}
 
@@ -106,7 +108,8 @@ else_known : (word : Token) (ts : List Token) (c : Condition) (s : State) (b : B
 else_known word ts c s true e = rw e refl
 else_known word ts c s false e = rw e (unless_known (alone word ts s.conditions) (within (turned c (not c.spent) true) s) (alone_known word ts s.conditions))
 
-in_known : (word : Token) (f : Condition → State → Then State) (s : State) (cs : List Condition) → ((c : Condition) (u : State) → Known (f c u)) → Known (in_innermost word f s cs)
+in_known : (word : Token) (f : Condition → State → Then State) (s : State) (cs : List Condition) → ((c : Condition) (u : State) → Known (f c u)) →
+    Known (in_innermost word f s cs)
 in_known word f s [] h = refl
 in_known word f s (c ∷ cs) h = h c (record s { conditions = cs })
 
@@ -166,7 +169,8 @@ module _ (numbers : MacroNumbers) (rules : Rules) where
   begin_known word w ts s true e = rw (Known, e) (known_then (first_test rules word w ts s) _ (first_known word w ts s) (λ x. tt))
   begin_known word w ts s false e = rw (Known, e) tt
 
-  elif_known : (word : Token) (ts : List Token) (c : Condition) (s : State) (last spent : Bool) → c.last ≡ last → c.spent ≡ spent → Known (elif rules word ts c s)
+  elif_known : (word : Token) (ts : List Token) (c : Condition) (s : State) (last spent : Bool) → c.last ≡ last → c.spent ≡ spent →
+      Known (elif rules word ts c s)
   elif_known word ts c s true spent e g = rw e refl
   elif_known word ts c s false true e g = rw (e, g) tt
   elif_known word ts c s false false e g = rw (e, g) (known_then (condition rules word ts s) _ (condition_known word ts s) (λ x. tt))
@@ -195,7 +199,8 @@ module _ (numbers : MacroNumbers) (rules : Rules) where
   word_known hash word Ifndef ts s = begin_known word Ifndef ts s (is_live s.conditions) refl
   word_known hash word Elif ts s = in_known word (later rules word Elif ts) s s.conditions (λ c u. elif_known word ts c u c.last c.spent refl refl)
   word_known hash word Else ts s = in_known word (later rules word Else ts) s s.conditions (λ c u. else_known word ts c u c.last refl)
-  word_known hash word Endif ts s = in_known word (later rules word Endif ts) s s.conditions (λ c u. unless_known (alone word ts u.conditions) u (alone_known word ts u.conditions))
+  word_known hash word Endif ts s =
+      in_known word (later rules word Endif ts) s s.conditions (λ c u. unless_known (alone word ts u.conditions) u (alone_known word ts u.conditions))
   word_known hash word Include ts s = other_known hash word Include ts s (is_live s.conditions) refl
   word_known hash word Define ts s = other_known hash word Define ts s (is_live s.conditions) refl
   word_known hash word Undef ts s = other_known hash word Undef ts s (is_live s.conditions) refl
@@ -230,4 +235,5 @@ known_err t r h e = subst Known e h
 pub expansion_numbers : MacroNumbers → ExpansionNumbers
 unfolding expansion
 expansion_numbers numbers dialect ts r e =
-    known_err (expansion dialect ts) r (parts_known numbers (rules_of dialect) (parts_of ts) (record { macros = predefined dialect; conditions = []; made = []; work = 0 })) e
+    known_err (expansion dialect ts) r
+    (parts_known numbers (rules_of dialect) (parts_of ts) (record { macros = predefined dialect; conditions = []; made = []; work = 0 })) e

@@ -59,7 +59,8 @@ module _ (free : FreeTokens) (rules : Rules) where
   run s ts = expand_parts rules (parts_of ts) s
 
   -- a line that includes a header changes nothing
-  include_line : (macros : Macros) (hash word : Token) (us : List Token) → IsInclude rules.dialect hash word us → directive rules hash (word ∷ us) (begun macros) ≡ Ok (begun macros)
+  include_line : (macros : Macros) (hash word : Token) (us : List Token) → IsInclude rules.dialect hash word us →
+      directive rules hash (word ∷ us) (begun macros) ≡ Ok (begun macros)
   unfolding directive
   include_line macros hash word us i =
       let s = begun macros in
@@ -72,11 +73,13 @@ module _ (free : FreeTokens) (rules : Rules) where
   plain_text macros [] plain unused few = refl
   plain_text macros (t ∷ ts) plain unused few =
       ap (λ ps. expand_parts rules ps (begun macros)) (one_text t ts plain) ∙
-      ap (λ m. go_on (made_of rules (begun macros) (and_then m (behind []))) (λ s. expand_parts rules [] s)) (free rules.work macros 64 [] None (t ∷ ts) 0 unused) ∙
+      ap (λ m. go_on (made_of rules (begun macros) (and_then m (behind []))) (λ s. expand_parts rules [] s))
+      (free rules.work macros 64 [] None (t ∷ ts) 0 unused) ∙
       ap (λ o. go_on (counted (begun macros) (t ∷ ts) 0 o) (λ s. expand_parts rules [] s)) (slice_get_past (t ∷ ts) rules.tokens few)
 
   -- nothing is made of lines that include headers
-  lines_free : (macros : Macros) (whole ts : List Token) → Behind rules.dialect whole ts → NoDirective ts → AllFree macros ts → length ts ≤ rules.tokens → run (begun macros) whole ≡ Ok ts
+  lines_free : (macros : Macros) (whole ts : List Token) → Behind rules.dialect whole ts → NoDirective ts → AllFree macros ts → length ts ≤ rules.tokens →
+      run (begun macros) whole ≡ Ok ts
   lines_free macros whole ts (NoLine us) plain unused few = plain_text macros us plain unused few
   lines_free macros whole ts (OneLine hash word us rest vs i ends more) plain unused few =
       ap (λ ps. expand_parts rules ps (begun macros)) (one_line hash (word ∷ us) rest i.begins i.inside ends) ∙

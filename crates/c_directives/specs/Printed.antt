@@ -45,5 +45,6 @@ pub data Behind (dialect : Dialect) : List Token → List Token → Type 0 where
 -- tokens, whatever that is.
 abbrev pub PrintedText : Type 0
 PrintedText =
-    (rules : Rules) (whole ts : List Token) → Behind rules.dialect whole ts → NoDirective ts → AllFree (predefined rules.dialect) ts → length ts ≤ rules.tokens →
+    (rules : Rules) (whole ts : List Token) → Behind rules.dialect whole ts → NoDirective ts → AllFree (predefined rules.dialect) ts →
+    length ts ≤ rules.tokens →
     expansion_by rules (predefined rules.dialect) whole ≡ Ok ts

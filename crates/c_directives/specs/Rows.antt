@@ -1,5 +1,6 @@
 -- Small texts, whose tokens stand between spaces, with what they expand to.
-use Rattle.std.specs.Prelude.{◌≡◌, refl, ℕ, ◌+◌, ◌==◌, List, [], ◌∷◌, ◌++◌, map, Some, None, option_map, Bool, true, false, ◌&&◌, ◌||◌, nat_le, if◌then◌else◌, codes, Result, Ok, Err}
+use Rattle.std.specs.Prelude.{◌≡◌, refl, ℕ, ◌+◌, ◌==◌, List, [], ◌∷◌, ◌++◌, map, Some, None, option_map, Bool, true, false, ◌&&◌, ◌||◌, nat_le, if◌then◌else◌}
+use Rattle.std.specs.Prelude.{codes, Result, Ok, Err}
 use Rattle.std.specs.Str.{byte}
 use Rattle.c_text.specs.declared.tokens.Dialect.TheVariants.{X86, Neon}
 use Rattle.c_text.specs.declared.tokens.TokenKind.{TokenKind}
@@ -108,7 +109,8 @@ more_behind_else = refl
 abbrev b_alone : Macros
 b_alone = with_macro (codes "B") (Some (record { function_like = false; parameters = []; body = []; used = [] })) no_macros
 
-operands : option_map (map (λ t. t.text)) (resolved b_alone Nothing (lines 1 (codes "defined A || defined ( B ) && C" ∷ []))) ≡ Some (words (codes "0 || 1 && C"))
+operands : option_map (map (λ t. t.text)) (resolved b_alone Nothing (lines 1 (codes "defined A || defined ( B ) && C" ∷ []))) ≡
+    Some (words (codes "0 || 1 && C"))
 operands = refl
 
 no_operand : resolved b_alone Nothing (lines 1 (codes "defined ( B" ∷ [])) ≡ None
@@ -185,6 +187,7 @@ shuffle : shown (expansion X86 (lines 1 (codes "_MM_SHUFFLE ( 2 , 3 , 0 , b ) NU
 unfolding sight expand_in bodies_in parts_of word_of directive text expansion predefined
 shuffle = refl
 
-other_dialect : shown (expansion Neon (lines 1 (codes "# ifdef __ARM_NEON" ∷ codes "bool __AVX2__" ∷ codes "# endif" ∷ []))) ≡ Ok (codes "_Bool" ∷ codes "__AVX2__" ∷ [])
+other_dialect : shown (expansion Neon (lines 1 (codes "# ifdef __ARM_NEON" ∷ codes "bool __AVX2__" ∷ codes "# endif" ∷ []))) ≡
+    Ok (codes "_Bool" ∷ codes "__AVX2__" ∷ [])
 unfolding sight expand_in bodies_in parts_of word_of directive text expansion predefined
 other_dialect = refl

@@ -1,8 +1,7 @@
 -- Bodies with their arguments put in, token by token.
-use Rattle.std.proofs.Common.{◌≡◌, ◌∙◌, ℕ, ◌+◌, ◌<◌, ◌≤◌, List, ◌∷◌, ◌++◌, length, get_or, take, drop, ap, sym, append_assoc, arith, length-append}
+use Rattle.std.proofs.Common.{◌≡◌, ◌∙◌, ℕ, ◌+◌, ◌<◌, ◌≤◌, List, ◌∷◌, ◌++◌, length, get_or, drop, ap, sym, append_assoc, length-append}
 use Rattle.std.proofs.lemmas.List.{append-nil, drop_more}
 use Rattle.std.proofs.Math.ListN.{drop_of_length-le}
-use Rattle.std.proofs.lemmas.Grind.{common_steps}
 use Rattle.c_text.specs.declared.tokens.Token.{Token}
 use Rattle.c_text.specs.declared.tokens.Place.{Place}
 use Rattle.c_macros.specs.declared.macros.Piece.{Piece}

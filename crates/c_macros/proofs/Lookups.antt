@@ -1,5 +1,5 @@
 -- Look-ups by name.
-use Rattle.std.proofs.Common.{◌≡◌, ◌∙◌, ℕ, Bool, true, false, cond, List, [], ◌∷◌, Option, Some, None, is_some, Vec, nat_eq, refl, sym, ap, true≢false}
+use Rattle.std.proofs.Common.{◌≡◌, ◌∙◌, ℕ, Bool, true, false, cond, List, [], ◌∷◌, Option, Some, None, Vec, nat_eq, refl, sym, ap, true≢false}
 use Rattle.std.specs.Cmp.Lexicographic.{pointwise, bytes_decides}
 use Rattle.std.specs.Str.{bytes_eq}
 use Rattle.std.specs.declared.alloc.Global.{Global}
@@ -14,12 +14,14 @@ abbrev pub standing : Option (Option Definition) → Option Definition
 standing None = None
 standing (Some o) = o
 
-standing_if : (b : Bool) (o : Option Definition) (r : Option (Option Definition)) (s : Option Definition) → standing r ≡ s → standing (cond b (Some o) r) ≡ cond b o s
+standing_if : (b : Bool) (o : Option Definition) (r : Option (Option Definition)) (s : Option Definition) → standing r ≡ s →
+    standing (cond b (Some o) r) ≡ cond b o s
 standing_if true o r s h = refl
 standing_if false o r s h = h
 
 -- a look-up in a map is one among the names
-pub lookup-standing_for : (x : List ℕ) (es : List (Vec ℕ Global × Option Definition)) → standing (lookup (λ k. pointwise nat_eq x k.items) es) ≡ standing_for es x
+pub lookup-standing_for : (x : List ℕ) (es : List (Vec ℕ Global × Option Definition)) →
+    standing (lookup (λ k. pointwise nat_eq x k.items) es) ≡ standing_for es x
 lookup-standing_for x [] = refl
 lookup-standing_for x (e ∷ es) =
     standing_if (pointwise nat_eq x e.0.items) e.1 (lookup (λ k. pointwise nat_eq x k.items) es) (standing_for es x) (lookup-standing_for x es)
@@ -48,10 +50,13 @@ inserted : (es : List (Vec ℕ Global × Option Definition)) (k : Vec ℕ Global
 inserted [] k o x = refl
 inserted (e ∷ es) k o x = go (bytes_eq k.items e.0.items) refl (inserted es k o x)
   where
-    go : (t : Bool) → bytes_eq k.items e.0.items ≡ t → standing_for (insert_entry (λ p q. pointwise nat_eq p.items q.items) es k o) x ≡ with_macro k.items o (standing_for es) x →
-        standing_for (cond t ((e.0, o) ∷ es) (e ∷ insert_entry (λ p q. pointwise nat_eq p.items q.items) es k o)) x ≡ with_macro k.items o (standing_for (e ∷ es)) x
+    go : (t : Bool) → bytes_eq k.items e.0.items ≡ t →
+        standing_for (insert_entry (λ p q. pointwise nat_eq p.items q.items) es k o) x ≡ with_macro k.items o (standing_for es) x →
+        standing_for (cond t ((e.0, o) ∷ es) (e ∷ insert_entry (λ p q. pointwise nat_eq p.items q.items) es k o)) x ≡ with_macro k.items o (standing_for
+        (e ∷ es)) x
     go true p h = there (bytes_eq x e.0.items) (bytes_eq x k.items) e.1 o (standing_for es x) (same_name x k.items e.0.items p)
-    go false p h = past (bytes_eq x e.0.items) (bytes_eq x k.items) e.1 o (standing_for es x) (standing_for (insert_entry (λ p q. pointwise nat_eq p.items q.items) es k o) x) (other_name x k.items e.0.items p) h
+    go false p h = past (bytes_eq x e.0.items) (bytes_eq x k.items) e.1 o (standing_for es x) (standing_for
+        (insert_entry (λ p q. pointwise nat_eq p.items q.items) es k o) x) (other_name x k.items e.0.items p) h
 
 pub stands_inserted : (es fs : List (Vec ℕ Global × Option Definition)) (k : Vec ℕ Global) (name : List ℕ) (o : Option Definition) →
     fs ≡ insert_entry (λ p q. pointwise nat_eq p.items q.items) es k o → k.items ≡ name → standing_for fs ≡ with_macro name o (standing_for es)

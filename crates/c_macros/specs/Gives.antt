@@ -2,7 +2,6 @@
 use Rattle.std.specs.Prelude.{◌≡◌, ℕ, ◌+◌, suc, List, [], ◌∷◌, map, drop, length, Result, Ok, Err}
 use Rattle.std.specs.Option.{option_copied}
 use Rattle.c_text.specs.declared.tokens.Token.{Token}
-use Rattle.c_text.specs.declared.refusals.Refusal.{Refusal}
 use Rattle.c_text.specs.declared.refusals.Fail.{Fail}
 use Rattle.c_text.specs.declared.refusals.Fail.TheVariants.{Refused, Memory}
 use Rattle.c_macros.specs.declared.expanding.Made.{Made as CodeMade}
