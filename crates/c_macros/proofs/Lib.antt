@@ -8,3 +8,4 @@ pub mod Sizes
 pub mod Resuming
 pub mod Coding
 pub mod Free
+pub mod Numbered

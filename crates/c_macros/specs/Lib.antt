@@ -7,4 +7,5 @@ pub mod Free
 pub mod Groups
 pub mod Seen
 pub mod Rows
+pub mod Numbers
 pub mod Gives

@@ -6,14 +6,18 @@ mod arguments;
 mod expanding;
 mod filling;
 mod hinted;
+mod laws;
 mod macros;
 mod names;
 mod roles;
 mod segments;
 mod sights;
 
+pub use arguments::is_mark;
 pub use expanding::{Made, Next, Open, expand_in};
+pub use filling::placed;
 pub use hinted::{jumps_of, split_hinted};
+pub use laws::{free_tokens, macro_numbers};
 pub use macros::{Macro, Piece};
 pub use names::Macros;
 pub use roles::Role;

@@ -1,8 +1,8 @@
 //! What names stand for.
 
-ghost use Rattle.std.specs.Prelude.{◌≡◌, ℕ, List, Some, None, OnOk};
+ghost use Rattle.std.specs.Prelude.{◌≡◌, Some, None, OnOk};
 ghost use Rattle.std.specs.Option.{option_copied};
-ghost use Rattle.c_macros.specs.Definition.{with_macro};
+ghost use Rattle.c_macros.specs.Definition.{no_macros, with_macro};
 ghost use Rattle.c_macros.specs.Entries.{macros_of};
 
 use crate::macros::Macro;
@@ -12,13 +12,14 @@ use std::alloc::{AllocError, Global};
 /// The macros that are defined, by their names.
 #[derive(Drop)]
 pub struct Macros {
-    map: IndexMap<Vec<u8>, Macro>,
+    /// A name that was defined and no longer is stands for none.
+    map: IndexMap<Vec<u8>, Option<Macro>>,
 }
 
 impl Macros {
     /// None.
     pub fn new(alloc: Global) -> Macros
-        ensures { (name : List ℕ) → macros_of result name ≡ None }
+        ensures { macros_of result ≡ no_macros }
     {
         Macros {
             map: IndexMap::new(alloc),
@@ -29,7 +30,21 @@ impl Macros {
     pub fn find(&self, name: &[u8]) -> Option<&Macro>
         ensures { option_copied result ≡ macros_of self.now name.now }
     {
-        self.map.get(name)
+        let entry = self.map.get(name)?;
+        entry.as_ref()
+    }
+
+    fn set(
+        &mut self,
+        alloc: Global,
+        name: &[u8],
+        definition: Option<Macro>,
+    ) -> Result<(), AllocError>
+        ensures { OnOk result (macros_of self.new ≡ with_macro name.now definition (macros_of self.old)) }
+    {
+        let key = Vec::from_slice(alloc, name)?;
+        self.map.insert(key, definition)?;
+        Ok(())
     }
 
     /// A name stands for a macro from now on. The only error is want of memory.
@@ -39,10 +54,18 @@ impl Macros {
         name: &[u8],
         definition: Macro,
     ) -> Result<(), AllocError>
-        ensures { OnOk result ((x : List ℕ) → macros_of self.new x ≡ with_macro name.now (Some definition) (macros_of self.old) x) }
+        ensures { OnOk result (macros_of self.new ≡ with_macro name.now (Some definition) (macros_of self.old)) }
     {
-        let key = Vec::from_slice(alloc, name)?;
-        self.map.insert(key, definition)?;
+        self.set(alloc, name, Some(definition))
+    }
+
+    /// A name stands for nothing from now on. The only error is want of memory.
+    pub fn remove(&mut self, alloc: Global, name: &[u8]) -> Result<(), AllocError>
+        ensures { OnOk result (macros_of self.new ≡ with_macro name.now None (macros_of self.old)) }
+    {
+        if self.find(name).is_some() {
+            self.set(alloc, name, None)?;
+        }
         Ok(())
     }
 }

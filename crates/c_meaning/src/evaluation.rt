@@ -1,10 +1,11 @@
 //! The evaluator: what expressions and statements do.
 
-ghost use Rattle.std.specs.Prelude.{◌≡◌, None, map, option_map};
+ghost use Rattle.std.specs.Prelude.{◌≡◌, true, None, map, option_map};
+ghost use Rattle.c_tree.specs.Tree.{Unary, Step, Binary, AndThen, OrElse, Choice, Assign, Cast, Index, Deref, Address, Call, PairOf};
 ghost use Rattle.c_tree.specs.View.{view, views, view_declared, view_stmt, view_stmts, view_optional};
 ghost use Rattle.address_taken.specs.Taken.{seen_all};
 ghost use Rattle.c_memory.specs.MeaningState.{scoped};
-ghost use Rattle.c_memory.specs.Meaning.{condition, expression, name_in, half_expression, its_value, target, last, values, loops, loops_after, with_step, optional_condition, optional_value, initialised};
+ghost use Rattle.c_memory.specs.Meaning.{condition, expression, kind_expression, name_in, half_expression, its_value, target, last, values, loops, loops_after, with_step, optional_condition, optional_value, initialised};
 ghost use Rattle.c_meaning.specs.Seen.{seen_objects};
 ghost use Rattle.c_meaning.specs.States.{seen_state, seen_target};
 ghost use Rattle.c_meaning.specs.Answers.{Answers, Shows};
@@ -16,123 +17,310 @@ use crate::calls::{Callee, Environment, Flow, last_called};
 use crate::flags::{after_start, first_flag, flags_of, other_flags, parts_of, rest_of};
 use crate::names::name_in;
 use crate::rows::Rows;
-use crate::state::{State, Stop, Target};
+use crate::state::{State, Stop, Target, within};
 use crate::values::push;
 use address_taken::Taken;
 use c_memory::Value;
-use c_tree::{CType, Declared, Expr, ExprKind, Stmt};
+use c_text::Text;
+use c_tree::{BinOp, CType, Declared, Expr, ExprKind, Stmt, UnOp};
 use c_values::operators;
 use std::mem::replace;
 
-/// The value of an expression, or none where its type is `void`. It may call the first `n` functions.
+/// The value of an expression, or none where its type is `void`. It may call the first `n` functions, and `room` functions of the evaluator that count
+/// themselves may stand within one another.
 #[cycle(run)]
 fn expression<'a, R: Rows>(
     env: &Environment<'a, '_, R>,
     n: usize,
+    room: usize,
     state: &mut State<'a>,
     e: &'a Expr,
 ) -> Result<Option<Value>, Stop>
     ensures { Answers (expression (view e.now) (calls_at env.now.tables R.row_call env.now.callees.items n) (seen_state state.old)) result state.new }
 {
+    let room = within(room)?;
     match &*e.kind {
         ExprKind::Const(number) => Ok(Some(Value::Int(*number))),
-        ExprKind::Name(x) => {
-            let binding = state.object_of(x.bytes())?;
-            let v = state.object_value(binding.ty, binding)?;
-            Ok(Some(v))
-        }
-        ExprKind::Unary(op, a) => {
-            let v = value(env, n, state, a)?;
-            let w = operators::operate_before(&state.memory, *op, v).ok_or(Stop::Undefined)?;
-            Ok(Some(w))
-        }
-        ExprKind::Step(a, up, before) => {
-            let place = target(env, n, state, a)?;
-            let v = state.step(e.ty, *up, *before, place)?;
-            Ok(Some(v))
-        }
-        ExprKind::Binary(op, a, b) => {
-            let v = value(env, n, state, a)?;
-            let w = value(env, n, state, b)?;
-            let x = operators::operate(&state.memory, *op, a.ty, b.ty, v, w).ok_or(
-                Stop::Undefined,
-            )?;
-            Ok(Some(x))
-        }
-        ExprKind::AndThen(a, b) => {
-            if holds(env, n, state, a)? {
-                let w = holds(env, n, state, b)?;
-                Ok(Some(operators::as_int(w)))
-            } else {
-                Ok(Some(operators::as_int(false)))
-            }
-        }
-        ExprKind::OrElse(a, b) => {
-            if holds(env, n, state, a)? {
-                Ok(Some(operators::as_int(true)))
-            } else {
-                let w = holds(env, n, state, b)?;
-                Ok(Some(operators::as_int(w)))
-            }
-        }
-        ExprKind::Choice(c, a, b) => {
-            if holds(env, n, state, c)? {
-                expression(env, n, state, a)
-            } else {
-                expression(env, n, state, b)
-            }
-        }
-        ExprKind::Assign(op, a, b) => {
-            let place = target(env, n, state, a)?;
-            let w = value(env, n, state, b)?;
-            let v = state.assigned_by(*op, e.ty, b.ty, place, w)?;
-            Ok(Some(v))
-        }
-        ExprKind::Comma(all) => last(env, n, state, all.as_slice()),
-        ExprKind::Cast(ty, a, _) => {
-            let v = expression(env, n, state, a)?;
-            state.cast_to(*ty, v)
-        }
-        ExprKind::Index(a, b) => {
-            let v = value(env, n, state, a)?;
-            let w = value(env, n, state, b)?;
-            let place = state.element(a.ty, b.ty, v, w)?;
-            let v = state.read_target(e.ty, place)?;
-            Ok(Some(v))
-        }
-        ExprKind::Deref(a) => {
-            let v = value(env, n, state, a)?;
-            let place = state.there(v)?;
-            let v = state.read_target(e.ty, place)?;
-            Ok(Some(v))
-        }
-        ExprKind::Address(a) => {
-            let place = target(env, n, state, a)?;
-            let v = state.address(place)?;
-            Ok(Some(v))
-        }
-        ExprKind::Call(f, all) => {
-            let given = values(env, n, state, all.as_slice())?;
-            call(env, n, state, f.bytes(), given.as_slice())
-        }
-        ExprKind::Half(a, k) => half(env, n, state, a, *k),
-        ExprKind::PairOf(a, b) => {
-            let v = value(env, n, state, a)?;
-            let w = value(env, n, state, b)?;
-            let v = state.pair_of(v, w)?;
-            Ok(Some(v))
-        }
-        ExprKind::SizeOfType(ty) => {
-            let v = state.size_value(*ty)?;
-            Ok(Some(v))
-        }
-        ExprKind::SizeOfName(x) => {
-            let binding = state.object_of(x.bytes())?;
-            let v = state.size_value(binding.ty)?;
-            Ok(Some(v))
-        }
+        ExprKind::Name(x) => state.value_of_name(x.bytes()),
+        ExprKind::Unary(op, a) => unary(env, n, room, state, e.ty, *op, a),
+        ExprKind::Step(a, up, before) => step(env, n, room, state, e.ty, a, *up, *before),
+        ExprKind::Binary(op, a, b) => binary(env, n, room, state, e.ty, *op, a, b),
+        ExprKind::AndThen(a, b) => and_then(env, n, room, state, e.ty, a, b),
+        ExprKind::OrElse(a, b) => or_else(env, n, room, state, e.ty, a, b),
+        ExprKind::Choice(c, a, b) => choice(env, n, room, state, e.ty, c, a, b),
+        ExprKind::Assign(op, a, b) => assign(env, n, room, state, e.ty, *op, a, b),
+        ExprKind::Comma(all) => last(env, n, room, state, all.as_slice()),
+        ExprKind::Cast(ty, a, _) => cast(env, n, room, state, *ty, a),
+        ExprKind::Index(a, b) => index(env, n, room, state, e.ty, a, b),
+        ExprKind::Deref(a) => deref(env, n, room, state, e.ty, a),
+        ExprKind::Address(a) => address(env, n, room, state, e.ty, a),
+        ExprKind::Call(f, all) => called(env, n, room, state, e.ty, f, all.as_slice()),
+        ExprKind::Half(a, k) => half(env, n, room, state, a, *k),
+        ExprKind::PairOf(a, b) => pair(env, n, room, state, e.ty, a, b),
+        ExprKind::SizeOfType(ty) => state.size_of_type(*ty),
+        ExprKind::SizeOfName(x) => state.size_of_name(x.bytes()),
         ExprKind::Str(_) => Err(Stop::Undefined),
     }
+}
+
+/// An operator before its operand.
+#[cycle(run)]
+#[inline(never)]
+fn unary<'a, R: Rows>(
+    env: &Environment<'a, '_, R>,
+    n: usize,
+    room: usize,
+    state: &mut State<'a>,
+    ty: CType,
+    op: UnOp,
+    a: &'a Expr,
+) -> Result<Option<Value>, Stop>
+    ensures { Answers (kind_expression ty (Unary op (view a.now)) (calls_at env.now.tables R.row_call env.now.callees.items n) (seen_state state.old)) result state.new }
+{
+    let v = value(env, n, room, state, a)?;
+    let w = operators::operate_before(&state.memory, op, v).ok_or(Stop::Undefined)?;
+    Ok(Some(w))
+}
+
+/// A step by one.
+#[cycle(run)]
+#[inline(never)]
+fn step<'a, R: Rows>(
+    env: &Environment<'a, '_, R>,
+    n: usize,
+    room: usize,
+    state: &mut State<'a>,
+    ty: CType,
+    a: &'a Expr,
+    up: bool,
+    before: bool,
+) -> Result<Option<Value>, Stop>
+    ensures { Answers (kind_expression ty (Step (view a.now) up before) (calls_at env.now.tables R.row_call env.now.callees.items n) (seen_state state.old)) result state.new }
+{
+    let place = target(env, n, room, state, a)?;
+    let v = state.step(ty, up, before, place)?;
+    Ok(Some(v))
+}
+
+/// An operator between two operands.
+#[cycle(run)]
+#[inline(never)]
+fn binary<'a, R: Rows>(
+    env: &Environment<'a, '_, R>,
+    n: usize,
+    room: usize,
+    state: &mut State<'a>,
+    ty: CType,
+    op: BinOp,
+    a: &'a Expr,
+    b: &'a Expr,
+) -> Result<Option<Value>, Stop>
+    ensures { Answers (kind_expression ty (Binary op (view a.now) (view b.now)) (calls_at env.now.tables R.row_call env.now.callees.items n) (seen_state state.old)) result state.new }
+{
+    let v = value(env, n, room, state, a)?;
+    let w = value(env, n, room, state, b)?;
+    let x = operators::operate(&state.memory, op, a.ty, b.ty, v, w).ok_or(Stop::Undefined)?;
+    Ok(Some(x))
+}
+
+/// `a && b`.
+#[cycle(run)]
+#[inline(never)]
+fn and_then<'a, R: Rows>(
+    env: &Environment<'a, '_, R>,
+    n: usize,
+    room: usize,
+    state: &mut State<'a>,
+    ty: CType,
+    a: &'a Expr,
+    b: &'a Expr,
+) -> Result<Option<Value>, Stop>
+    ensures { Answers (kind_expression ty (AndThen (view a.now) (view b.now)) (calls_at env.now.tables R.row_call env.now.callees.items n) (seen_state state.old)) result state.new }
+{
+    if holds(env, n, room, state, a)? {
+        let w = holds(env, n, room, state, b)?;
+        Ok(Some(operators::as_int(w)))
+    } else {
+        Ok(Some(operators::as_int(false)))
+    }
+}
+
+/// `a || b`.
+#[cycle(run)]
+#[inline(never)]
+fn or_else<'a, R: Rows>(
+    env: &Environment<'a, '_, R>,
+    n: usize,
+    room: usize,
+    state: &mut State<'a>,
+    ty: CType,
+    a: &'a Expr,
+    b: &'a Expr,
+) -> Result<Option<Value>, Stop>
+    ensures { Answers (kind_expression ty (OrElse (view a.now) (view b.now)) (calls_at env.now.tables R.row_call env.now.callees.items n) (seen_state state.old)) result state.new }
+{
+    if holds(env, n, room, state, a)? {
+        Ok(Some(operators::as_int(true)))
+    } else {
+        let w = holds(env, n, room, state, b)?;
+        Ok(Some(operators::as_int(w)))
+    }
+}
+
+/// `c ? a : b`.
+#[cycle(run)]
+#[inline(never)]
+fn choice<'a, R: Rows>(
+    env: &Environment<'a, '_, R>,
+    n: usize,
+    room: usize,
+    state: &mut State<'a>,
+    ty: CType,
+    c: &'a Expr,
+    a: &'a Expr,
+    b: &'a Expr,
+) -> Result<Option<Value>, Stop>
+    ensures { Answers (kind_expression ty (Choice (view c.now) (view a.now) (view b.now)) (calls_at env.now.tables R.row_call env.now.callees.items n) (seen_state state.old)) result state.new }
+{
+    if holds(env, n, room, state, c)? {
+        expression(env, n, room, state, a)
+    } else {
+        expression(env, n, room, state, b)
+    }
+}
+
+/// An assignment, or one with an operator.
+#[cycle(run)]
+#[inline(never)]
+fn assign<'a, R: Rows>(
+    env: &Environment<'a, '_, R>,
+    n: usize,
+    room: usize,
+    state: &mut State<'a>,
+    ty: CType,
+    op: Option<BinOp>,
+    a: &'a Expr,
+    b: &'a Expr,
+) -> Result<Option<Value>, Stop>
+    ensures { Answers (kind_expression ty (Assign op (view a.now) (view b.now)) (calls_at env.now.tables R.row_call env.now.callees.items n) (seen_state state.old)) result state.new }
+{
+    let place = target(env, n, room, state, a)?;
+    let w = value(env, n, room, state, b)?;
+    let v = state.assigned_by(op, ty, b.ty, place, w)?;
+    Ok(Some(v))
+}
+
+/// A conversion.
+#[cycle(run)]
+#[inline(never)]
+fn cast<'a, R: Rows>(
+    env: &Environment<'a, '_, R>,
+    n: usize,
+    room: usize,
+    state: &mut State<'a>,
+    ty: CType,
+    a: &'a Expr,
+) -> Result<Option<Value>, Stop>
+    ensures { Answers (kind_expression ty (Cast ty (view a.now) true) (calls_at env.now.tables R.row_call env.now.callees.items n) (seen_state state.old)) result state.new }
+{
+    let v = expression(env, n, room, state, a)?;
+    state.cast_to(ty, v)
+}
+
+/// An element of an array.
+#[cycle(run)]
+#[inline(never)]
+fn index<'a, R: Rows>(
+    env: &Environment<'a, '_, R>,
+    n: usize,
+    room: usize,
+    state: &mut State<'a>,
+    ty: CType,
+    a: &'a Expr,
+    b: &'a Expr,
+) -> Result<Option<Value>, Stop>
+    ensures { Answers (kind_expression ty (Index (view a.now) (view b.now)) (calls_at env.now.tables R.row_call env.now.callees.items n) (seen_state state.old)) result state.new }
+{
+    let v = value(env, n, room, state, a)?;
+    let w = value(env, n, room, state, b)?;
+    let place = state.element(a.ty, b.ty, v, w)?;
+    let v = state.read_target(ty, place)?;
+    Ok(Some(v))
+}
+
+/// What lies at a pointer.
+#[cycle(run)]
+#[inline(never)]
+fn deref<'a, R: Rows>(
+    env: &Environment<'a, '_, R>,
+    n: usize,
+    room: usize,
+    state: &mut State<'a>,
+    ty: CType,
+    a: &'a Expr,
+) -> Result<Option<Value>, Stop>
+    ensures { Answers (kind_expression ty (Deref (view a.now)) (calls_at env.now.tables R.row_call env.now.callees.items n) (seen_state state.old)) result state.new }
+{
+    let v = value(env, n, room, state, a)?;
+    let place = state.there(v)?;
+    let v = state.read_target(ty, place)?;
+    Ok(Some(v))
+}
+
+/// The address of an object.
+#[cycle(run)]
+#[inline(never)]
+fn address<'a, R: Rows>(
+    env: &Environment<'a, '_, R>,
+    n: usize,
+    room: usize,
+    state: &mut State<'a>,
+    ty: CType,
+    a: &'a Expr,
+) -> Result<Option<Value>, Stop>
+    ensures { Answers (kind_expression ty (Address (view a.now)) (calls_at env.now.tables R.row_call env.now.callees.items n) (seen_state state.old)) result state.new }
+{
+    let place = target(env, n, room, state, a)?;
+    let v = state.address(place)?;
+    Ok(Some(v))
+}
+
+/// A call with its arguments.
+#[cycle(run)]
+#[inline(never)]
+fn called<'a, R: Rows>(
+    env: &Environment<'a, '_, R>,
+    n: usize,
+    room: usize,
+    state: &mut State<'a>,
+    ty: CType,
+    f: &'a Text,
+    all: &'a [Expr],
+) -> Result<Option<Value>, Stop>
+    ensures { Answers (kind_expression ty (Call f.now (views all.now)) (calls_at env.now.tables R.row_call env.now.callees.items n) (seen_state state.old)) result state.new }
+{
+    let given = values(env, n, room, state, all)?;
+    call(env, n, room, state, f.bytes(), given.as_slice())
+}
+
+/// The pair of two vectors.
+#[cycle(run)]
+#[inline(never)]
+fn pair<'a, R: Rows>(
+    env: &Environment<'a, '_, R>,
+    n: usize,
+    room: usize,
+    state: &mut State<'a>,
+    ty: CType,
+    a: &'a Expr,
+    b: &'a Expr,
+) -> Result<Option<Value>, Stop>
+    ensures { Answers (kind_expression ty (PairOf (view a.now) (view b.now)) (calls_at env.now.tables R.row_call env.now.callees.items n) (seen_state state.old)) result state.new }
+{
+    let v = value(env, n, room, state, a)?;
+    let w = value(env, n, room, state, b)?;
+    let v = state.pair_of(v, w)?;
+    Ok(Some(v))
 }
 
 /// The value of an expression. Undefined where it gives none.
@@ -140,12 +328,13 @@ fn expression<'a, R: Rows>(
 fn value<'a, R: Rows>(
     env: &Environment<'a, '_, R>,
     n: usize,
+    room: usize,
     state: &mut State<'a>,
     e: &'a Expr,
 ) -> Result<Value, Stop>
     ensures { Answers (its_value (expression (view e.now) (calls_at env.now.tables R.row_call env.now.callees.items n)) (seen_state state.old)) result state.new }
 {
-    let v = expression(env, n, state, e)?;
+    let v = expression(env, n, room, state, e)?;
     v.ok_or(Stop::Undefined)
 }
 
@@ -154,12 +343,13 @@ fn value<'a, R: Rows>(
 fn holds<'a, R: Rows>(
     env: &Environment<'a, '_, R>,
     n: usize,
+    room: usize,
     state: &mut State<'a>,
     e: &'a Expr,
 ) -> Result<bool, Stop>
     ensures { Answers (condition (expression (view e.now) (calls_at env.now.tables R.row_call env.now.callees.items n)) (seen_state state.old)) result state.new }
 {
-    let v = value(env, n, state, e)?;
+    let v = value(env, n, room, state, e)?;
     operators::holds(&state.memory, v).ok_or(Stop::Undefined)
 }
 
@@ -168,6 +358,7 @@ fn holds<'a, R: Rows>(
 fn half<'a, R: Rows>(
     env: &Environment<'a, '_, R>,
     n: usize,
+    room: usize,
     state: &mut State<'a>,
     e: &'a Expr,
     k: u8,
@@ -181,7 +372,7 @@ fn half<'a, R: Rows>(
             Ok(Some(v))
         }
         None => {
-            let v = value(env, n, state, e)?;
+            let v = value(env, n, room, state, e)?;
             let v = state.half_of(k, v)?;
             Ok(Some(v))
         }
@@ -193,27 +384,29 @@ fn half<'a, R: Rows>(
 fn target<'a, R: Rows>(
     env: &Environment<'a, '_, R>,
     n: usize,
+    room: usize,
     state: &mut State<'a>,
     e: &'a Expr,
 ) -> Result<Target<'a>, Stop>
     ensures { Shows seen_target (target (view e.now) (calls_at env.now.tables R.row_call env.now.callees.items n) (seen_state state.old)) result state.new }
 {
+    let room = within(room)?;
     match &*e.kind {
         ExprKind::Name(x) => {
             let binding = state.object_of(x.bytes())?;
             Ok(binding.target())
         }
         ExprKind::Index(a, b) => {
-            let v = value(env, n, state, a)?;
-            let w = value(env, n, state, b)?;
+            let v = value(env, n, room, state, a)?;
+            let w = value(env, n, room, state, b)?;
             state.element(a.ty, b.ty, v, w)
         }
         ExprKind::Deref(a) => {
-            let v = value(env, n, state, a)?;
+            let v = value(env, n, room, state, a)?;
             state.there(v)
         }
         ExprKind::Half(a, k) => {
-            let place = target(env, n, state, a)?;
+            let place = target(env, n, room, state, a)?;
             state.half_target(*k, place)
         }
         _ => Err(Stop::Undefined),
@@ -225,6 +418,7 @@ fn target<'a, R: Rows>(
 fn last<'a, R: Rows>(
     env: &Environment<'a, '_, R>,
     n: usize,
+    room: usize,
     state: &mut State<'a>,
     all: &'a [Expr],
 ) -> Result<Option<Value>, Stop>
@@ -232,7 +426,7 @@ fn last<'a, R: Rows>(
 {
     let mut v = None;
     for e in all {
-        v = expression(env, n, state, e)?;
+        v = expression(env, n, room, state, e)?;
     }
     Ok(v)
 }
@@ -242,6 +436,7 @@ fn last<'a, R: Rows>(
 fn values<'a, R: Rows>(
     env: &Environment<'a, '_, R>,
     n: usize,
+    room: usize,
     state: &mut State<'a>,
     all: &'a [Expr],
 ) -> Result<Vec<Value>, Stop>
@@ -249,7 +444,7 @@ fn values<'a, R: Rows>(
 {
     let mut given = Vec::new(env.alloc);
     for e in all {
-        let v = value(env, n, state, e)?;
+        let v = value(env, n, room, state, e)?;
         push(&mut given, v)?;
     }
     Ok(given)
@@ -260,6 +455,7 @@ fn values<'a, R: Rows>(
 fn call<'a, R: Rows>(
     env: &Environment<'a, '_, R>,
     n: usize,
+    room: usize,
     state: &mut State<'a>,
     name: &[u8],
     given: &[Value],
@@ -273,7 +469,7 @@ fn call<'a, R: Rows>(
         Some(k) => {
             let callee = &env.callees[k];
             state.spend_for(name)?;
-            enter(env, k, state, callee, given)
+            enter(env, k, room, state, callee, given)
         }
     }
 }
@@ -283,16 +479,18 @@ fn call<'a, R: Rows>(
 pub fn enter<'a, R: Rows>(
     env: &Environment<'a, '_, R>,
     k: usize,
+    room: usize,
     state: &mut State<'a>,
     callee: &Callee<'a>,
     given: &[Value],
 ) -> Result<Option<Value>, Stop>
     ensures { Answers (call_of (seen_objects env.now.tables) (seen_callee callee.now) (calls_at env.now.tables R.row_call env.now.callees.items k) given.now (seen_state state.old)) result state.new }
 {
+    let room = within(room)?;
     let tables = env.tables.copy(env.alloc)?;
     let blocks = state.memory.blocks.len();
     let caller = replace(&mut state.objects, tables);
-    let v = body(env, k, state, callee, given)?;
+    let v = body(env, k, room, state, callee, given)?;
     state.objects = caller;
     state.memory.blocks.end_from(blocks);
     Ok(v)
@@ -303,6 +501,7 @@ pub fn enter<'a, R: Rows>(
 fn body<'a, R: Rows>(
     env: &Environment<'a, '_, R>,
     n: usize,
+    room: usize,
     state: &mut State<'a>,
     callee: &Callee<'a>,
     given: &[Value],
@@ -319,6 +518,7 @@ fn body<'a, R: Rows>(
     let flow = sequence(
         env,
         n,
+        room,
         state,
         function.body.as_slice(),
         callee.taken.body.as_slice(),
@@ -331,44 +531,46 @@ fn body<'a, R: Rows>(
 fn act<'a, R: Rows>(
     env: &Environment<'a, '_, R>,
     n: usize,
+    room: usize,
     state: &mut State<'a>,
     s: &'a Stmt,
     taken: &[Taken],
 ) -> Result<Flow, Stop>
     ensures { Shows seen_flow (act (view_stmt s.now) (seen_all taken.now) (calls_at env.now.tables R.row_call env.now.callees.items n) (seen_state state.old)) result state.new }
 {
+    let room = within(room)?;
     match s {
         Stmt::Declare(all) => {
-            declare(env, n, state, all.as_slice(), flags_of(taken))?;
+            declare(env, n, room, state, all.as_slice(), flags_of(taken))?;
             Ok(Flow::Next)
         }
         Stmt::Run(e) => {
-            let _ = expression(env, n, state, e)?;
+            let _ = expression(env, n, room, state, e)?;
             Ok(Flow::Next)
         }
         Stmt::Block(all) => {
             let objects = state.objects.len();
             let blocks = state.memory.blocks.len();
-            let flow = sequence(env, n, state, all.as_slice(), parts_of(taken))?;
+            let flow = sequence(env, n, room, state, all.as_slice(), parts_of(taken))?;
             state.leave(objects, blocks);
             Ok(flow)
         }
         Stmt::If(c, s, other) => {
             let parts = parts_of(taken);
-            if holds(env, n, state, c)? {
-                in_scope(env, n, state, s, parts)
+            if holds(env, n, room, state, c)? {
+                in_scope(env, n, room, state, s, parts)
             } else {
-                optional_body(env, n, state, other, rest_of(parts))
+                optional_body(env, n, room, state, other, rest_of(parts))
             }
         }
-        Stmt::While(c, s) => while_loop(env, n, state, c, s, taken),
-        Stmt::DoWhile(s, c) => do_loop(env, n, state, s, c, taken),
+        Stmt::While(c, s) => while_loop(env, n, room, state, c, s, taken),
+        Stmt::DoWhile(s, c) => do_loop(env, n, room, state, s, c, taken),
         Stmt::For(start, c, next, s) => {
             let parts = parts_of(taken);
             let objects = state.objects.len();
             let blocks = state.memory.blocks.len();
-            let _ = optional_act(env, n, state, start, parts)?;
-            let flow = turns_with(env, n, state, c, next, s, after_start(start, parts))?;
+            let _ = optional_act(env, n, room, state, start, parts)?;
+            let flow = turns_with(env, n, room, state, c, next, s, after_start(start, parts))?;
             state.leave(objects, blocks);
             Ok(flow)
         }
@@ -376,7 +578,7 @@ fn act<'a, R: Rows>(
         Stmt::Continue(_) => Ok(Flow::Continued),
         Stmt::Return(_, None) => Ok(Flow::Returned(None)),
         Stmt::Return(_, Some(e)) => {
-            let v = value(env, n, state, e)?;
+            let v = value(env, n, room, state, e)?;
             Ok(Flow::Returned(Some(v)))
         }
         Stmt::Empty => Ok(Flow::Next),
@@ -388,6 +590,7 @@ fn act<'a, R: Rows>(
 fn optional_act<'a, R: Rows>(
     env: &Environment<'a, '_, R>,
     n: usize,
+    room: usize,
     state: &mut State<'a>,
     s: &'a Option<Box<Stmt>>,
     taken: &[Taken],
@@ -396,7 +599,7 @@ fn optional_act<'a, R: Rows>(
 {
     match s {
         None => Ok(Flow::Next),
-        Some(s) => act(env, n, state, s, taken),
+        Some(s) => act(env, n, room, state, s, taken),
     }
 }
 
@@ -405,6 +608,7 @@ fn optional_act<'a, R: Rows>(
 fn in_scope<'a, R: Rows>(
     env: &Environment<'a, '_, R>,
     n: usize,
+    room: usize,
     state: &mut State<'a>,
     s: &'a Stmt,
     taken: &[Taken],
@@ -413,7 +617,7 @@ fn in_scope<'a, R: Rows>(
 {
     let objects = state.objects.len();
     let blocks = state.memory.blocks.len();
-    let flow = act(env, n, state, s, taken)?;
+    let flow = act(env, n, room, state, s, taken)?;
     state.leave(objects, blocks);
     Ok(flow)
 }
@@ -423,6 +627,7 @@ fn in_scope<'a, R: Rows>(
 fn optional_body<'a, R: Rows>(
     env: &Environment<'a, '_, R>,
     n: usize,
+    room: usize,
     state: &mut State<'a>,
     s: &'a Option<Box<Stmt>>,
     taken: &[Taken],
@@ -431,7 +636,7 @@ fn optional_body<'a, R: Rows>(
 {
     match s {
         None => Ok(Flow::Next),
-        Some(s) => in_scope(env, n, state, s, taken),
+        Some(s) => in_scope(env, n, room, state, s, taken),
     }
 }
 
@@ -440,6 +645,7 @@ fn optional_body<'a, R: Rows>(
 fn sequence<'a, R: Rows>(
     env: &Environment<'a, '_, R>,
     n: usize,
+    room: usize,
     state: &mut State<'a>,
     all: &'a [Stmt],
     taken: &[Taken],
@@ -448,7 +654,7 @@ fn sequence<'a, R: Rows>(
 {
     let mut left = taken;
     for s in all {
-        match act(env, n, state, s, left)? {
+        match act(env, n, room, state, s, left)? {
             Flow::Next => {}
             other => return Ok(other),
         }
@@ -462,6 +668,7 @@ fn sequence<'a, R: Rows>(
 fn declare<'a, R: Rows>(
     env: &Environment<'a, '_, R>,
     n: usize,
+    room: usize,
     state: &mut State<'a>,
     all: &'a [Declared],
     flags: &[bool],
@@ -471,7 +678,7 @@ fn declare<'a, R: Rows>(
     let mut left = flags;
     for d in all {
         state.begin_object(env.alloc, d, is_block(d.ty, first_flag(left)))?;
-        initialise(env, n, state, d)?;
+        initialise(env, n, room, state, d)?;
         left = other_flags(left);
     }
     Ok(())
@@ -482,6 +689,7 @@ fn declare<'a, R: Rows>(
 fn initialise<'a, R: Rows>(
     env: &Environment<'a, '_, R>,
     n: usize,
+    room: usize,
     state: &mut State<'a>,
     d: &'a Declared,
 ) -> Result<(), Stop>
@@ -490,7 +698,7 @@ fn initialise<'a, R: Rows>(
     match &d.init {
         None => state.first_list(env.alloc, d),
         Some(e) => {
-            let v = value(env, n, state, e)?;
+            let v = value(env, n, room, state, e)?;
             let binding = state.object_of(d.name.bytes())?;
             state.first_value(env.alloc, binding, v)
         }
@@ -502,6 +710,7 @@ fn initialise<'a, R: Rows>(
 fn while_loop<'a, R: Rows>(
     env: &Environment<'a, '_, R>,
     n: usize,
+    room: usize,
     state: &mut State<'a>,
     c: &'a Expr,
     s: &'a Stmt,
@@ -510,7 +719,7 @@ fn while_loop<'a, R: Rows>(
     ensures { let calls = calls_at env.now.tables R.row_call env.now.callees.items n in
         Shows seen_flow (loops state.old.left (condition (expression (view c.now) calls)) (scoped (act (view_stmt s.now) (parts_of (seen_all taken.now)) calls)) (seen_state state.old)) result state.new }
 {
-    turns(env, n, state, c, s, parts_of(taken))
+    turns(env, n, room, state, c, s, parts_of(taken))
 }
 
 /// A `do` loop. The first of `taken` is its own.
@@ -518,6 +727,7 @@ fn while_loop<'a, R: Rows>(
 fn do_loop<'a, R: Rows>(
     env: &Environment<'a, '_, R>,
     n: usize,
+    room: usize,
     state: &mut State<'a>,
     s: &'a Stmt,
     c: &'a Expr,
@@ -526,7 +736,7 @@ fn do_loop<'a, R: Rows>(
     ensures { let calls = calls_at env.now.tables R.row_call env.now.callees.items n in
         Shows seen_flow (loops_after state.old.left (condition (expression (view c.now) calls)) (scoped (act (view_stmt s.now) (parts_of (seen_all taken.now)) calls)) (seen_state state.old)) result state.new }
 {
-    turns_after(env, n, state, s, c, parts_of(taken))
+    turns_after(env, n, room, state, s, c, parts_of(taken))
 }
 
 /// The turns of a loop that tests before its body.
@@ -534,6 +744,7 @@ fn do_loop<'a, R: Rows>(
 fn turns<'a, R: Rows>(
     env: &Environment<'a, '_, R>,
     n: usize,
+    room: usize,
     state: &mut State<'a>,
     c: &'a Expr,
     s: &'a Stmt,
@@ -544,7 +755,7 @@ fn turns<'a, R: Rows>(
 {
     let mut most = state.left;
     loop {
-        let v = holds(env, n, state, c)?;
+        let v = holds(env, n, room, state, c)?;
         if !v {
             return Ok(Flow::Next);
         }
@@ -553,7 +764,7 @@ fn turns<'a, R: Rows>(
         }
         most -= 1;
         state.spend()?;
-        match in_scope(env, n, state, s, taken)? {
+        match in_scope(env, n, room, state, s, taken)? {
             Flow::Next | Flow::Continued => {}
             Flow::Broke => return Ok(Flow::Next),
             Flow::Returned(v) => return Ok(Flow::Returned(v)),
@@ -566,6 +777,7 @@ fn turns<'a, R: Rows>(
 fn turns_after<'a, R: Rows>(
     env: &Environment<'a, '_, R>,
     n: usize,
+    room: usize,
     state: &mut State<'a>,
     s: &'a Stmt,
     c: &'a Expr,
@@ -581,12 +793,12 @@ fn turns_after<'a, R: Rows>(
         }
         most -= 1;
         state.spend()?;
-        match in_scope(env, n, state, s, taken)? {
+        match in_scope(env, n, room, state, s, taken)? {
             Flow::Next | Flow::Continued => {}
             Flow::Broke => return Ok(Flow::Next),
             Flow::Returned(v) => return Ok(Flow::Returned(v)),
         }
-        let v = holds(env, n, state, c)?;
+        let v = holds(env, n, room, state, c)?;
         if !v {
             return Ok(Flow::Next);
         }
@@ -598,6 +810,7 @@ fn turns_after<'a, R: Rows>(
 fn turns_with<'a, R: Rows>(
     env: &Environment<'a, '_, R>,
     n: usize,
+    room: usize,
     state: &mut State<'a>,
     c: &'a Option<Expr>,
     next: &'a Option<Expr>,
@@ -609,7 +822,7 @@ fn turns_with<'a, R: Rows>(
 {
     let mut most = state.left;
     loop {
-        let v = optional_holds(env, n, state, c)?;
+        let v = optional_holds(env, n, room, state, c)?;
         if !v {
             return Ok(Flow::Next);
         }
@@ -618,12 +831,12 @@ fn turns_with<'a, R: Rows>(
         }
         most -= 1;
         state.spend()?;
-        match in_scope(env, n, state, s, taken)? {
+        match in_scope(env, n, room, state, s, taken)? {
             Flow::Next | Flow::Continued => {}
             Flow::Broke => return Ok(Flow::Next),
             Flow::Returned(v) => return Ok(Flow::Returned(v)),
         }
-        let _ = optional_step(env, n, state, next)?;
+        let _ = optional_step(env, n, room, state, next)?;
     }
 }
 
@@ -632,6 +845,7 @@ fn turns_with<'a, R: Rows>(
 fn optional_holds<'a, R: Rows>(
     env: &Environment<'a, '_, R>,
     n: usize,
+    room: usize,
     state: &mut State<'a>,
     c: &'a Option<Expr>,
 ) -> Result<bool, Stop>
@@ -639,7 +853,7 @@ fn optional_holds<'a, R: Rows>(
 {
     match c {
         None => Ok(true),
-        Some(e) => holds(env, n, state, e),
+        Some(e) => holds(env, n, room, state, e),
     }
 }
 
@@ -648,6 +862,7 @@ fn optional_holds<'a, R: Rows>(
 fn optional_step<'a, R: Rows>(
     env: &Environment<'a, '_, R>,
     n: usize,
+    room: usize,
     state: &mut State<'a>,
     next: &'a Option<Expr>,
 ) -> Result<Option<Value>, Stop>
@@ -655,6 +870,6 @@ fn optional_step<'a, R: Rows>(
 {
     match next {
         None => Ok(None),
-        Some(e) => expression(env, n, state, e),
+        Some(e) => expression(env, n, room, state, e),
     }
 }

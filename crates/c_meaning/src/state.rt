@@ -1,6 +1,6 @@
 //! What a run has at each moment, and its steps.
 
-ghost use Rattle.std.specs.Prelude.{◌≡◌};
+ghost use Rattle.std.specs.Prelude.{◌≡◌, ◌+◌, IfOk, IfErr};
 ghost use Rattle.c_memory.specs.MeaningState.{object_of, spend};
 ghost use Rattle.c_memory.specs.MeaningObjects.{value_named, half_named, read_target, set_target, target_of};
 ghost use Rattle.c_memory.specs.Meaning.{spend_for, is_helper};
@@ -43,6 +43,21 @@ impl From<AllocError> for Stop {
 
     fn from(_: AllocError) -> Stop {
         Stop::NoMemory
+    }
+}
+
+/// The functions of the evaluator that count themselves (those of expressions, of statements and of calls) and may stand within one another: what
+/// goes deeper has no room on the machine's stack, which is want of memory.
+pub const ROOM: usize = 8192;
+
+/// The room that is left for what stands within. The only error is that there is none.
+pub fn within(room: usize) -> Result<usize, AllocError>
+    ensures less { IfOk result (λ r. r + 1 ≡ room) }
+    ensures full { IfErr result (λ _. room ≡ 0) }
+{
+    match room {
+        0 => Err(AllocError),
+        _ => Ok(room - 1),
     }
 }
 

@@ -19,7 +19,7 @@ use crate::calls::{Callee, Environment, first_called};
 use crate::evaluation::enter;
 use crate::objects::{Binding, Location, Objects};
 use crate::rows::Rows;
-use crate::state::{State, Stop};
+use crate::state::{ROOM, State, Stop};
 use address_taken::address_taken;
 use c_memory::{BlockList, Memory, Outcome, Value, VectorTable};
 use c_tree::{Item, Unit};
@@ -183,7 +183,7 @@ fn outermost<'a, R: Rows>(
         Some(k) => {
             let mut state = state;
             let callee = &env.callees[k];
-            let entered = enter(env, k, &mut state, callee, args);
+            let entered = enter(env, k, ROOM, &mut state, callee, args);
             outcome(entered, state)
         }
     }

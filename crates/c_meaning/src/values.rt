@@ -3,7 +3,7 @@
 ghost use Rattle.std.specs.Prelude.{◌≡◌, OnOk, [], ◌∷◌, ◌++◌};
 ghost use Rattle.std.specs.Option.{option_and_then};
 ghost use Rattle.c_memory.specs.Meaning.{give, object_value, array_value, there, address, cast_to, assigned, assigned_by, step, half_target, half_of, pair_of, size_value, element};
-ghost use Rattle.c_memory.specs.MeaningState.{defined};
+ghost use Rattle.c_memory.specs.MeaningState.{defined, object_of, then_do};
 ghost use Rattle.c_memory.specs.MeaningValues.{converted_value};
 ghost use Rattle.c_meaning.specs.Seen.{seen_binding, seen_location};
 ghost use Rattle.c_meaning.specs.States.{seen_state, seen_target};
@@ -45,6 +45,32 @@ impl<'a> State<'a> {
             CType::Void | CType::Int(_) | CType::M128 | CType::M256 => self.value_named(binding),
             CType::Neon(_, _) | CType::Pair | CType::Pointer(_, _) => self.value_named(binding),
         }
+    }
+
+    /// The value of a name.
+    pub fn value_of_name(&self, name: &[u8]) -> Result<Option<Value>, Stop>
+        ensures { Answers (give (λ s. then_do (object_of name.now s) (λ b. object_value b.ty b)) (seen_state self.now)) result self.now }
+    {
+        let binding = self.object_of(name)?;
+        let v = self.object_value(binding.ty, binding)?;
+        Ok(Some(v))
+    }
+
+    /// The size of a type.
+    pub fn size_of_type(&self, ty: CType) -> Result<Option<Value>, Stop>
+        ensures { Answers (give (size_value ty) (seen_state self.now)) result self.now }
+    {
+        let v = self.size_value(ty)?;
+        Ok(Some(v))
+    }
+
+    /// The size of an object.
+    pub fn size_of_name(&self, name: &[u8]) -> Result<Option<Value>, Stop>
+        ensures { Answers (give (λ s. then_do (object_of name.now s) (λ b. size_value b.ty)) (seen_state self.now)) result self.now }
+    {
+        let binding = self.object_of(name)?;
+        let v = self.size_value(binding.ty)?;
+        Ok(Some(v))
     }
 
     /// A pointer alone, as what an assignment sets.

@@ -12,6 +12,45 @@ use Rattle.c_meaning.proofs.evaluation.+run.Given as goal
 abbrev pub decreases-expression : goal.decreases-expression
 decreases-expression g l = functions_weight (take l.n (map seen_callee l.env.now.callees.items)) + weight (view l.e.now)
 
+abbrev pub decreases-unary : goal.decreases-unary
+decreases-unary g l = functions_weight (take l.n (map seen_callee l.env.now.callees.items)) + weight (view l.a.now) + 4
+
+abbrev pub decreases-step : goal.decreases-step
+decreases-step g l = functions_weight (take l.n (map seen_callee l.env.now.callees.items)) + weight (view l.a.now) + 4
+
+abbrev pub decreases-cast : goal.decreases-cast
+decreases-cast g l = functions_weight (take l.n (map seen_callee l.env.now.callees.items)) + weight (view l.a.now) + 4
+
+abbrev pub decreases-deref : goal.decreases-deref
+decreases-deref g l = functions_weight (take l.n (map seen_callee l.env.now.callees.items)) + weight (view l.a.now) + 4
+
+abbrev pub decreases-address : goal.decreases-address
+decreases-address g l = functions_weight (take l.n (map seen_callee l.env.now.callees.items)) + weight (view l.a.now) + 4
+
+abbrev pub decreases-binary : goal.decreases-binary
+decreases-binary g l = functions_weight (take l.n (map seen_callee l.env.now.callees.items)) + weight (view l.a.now) + weight (view l.b.now) + 4
+
+abbrev pub decreases-and_then : goal.decreases-and_then
+decreases-and_then g l = functions_weight (take l.n (map seen_callee l.env.now.callees.items)) + weight (view l.a.now) + weight (view l.b.now) + 4
+
+abbrev pub decreases-or_else : goal.decreases-or_else
+decreases-or_else g l = functions_weight (take l.n (map seen_callee l.env.now.callees.items)) + weight (view l.a.now) + weight (view l.b.now) + 4
+
+abbrev pub decreases-assign : goal.decreases-assign
+decreases-assign g l = functions_weight (take l.n (map seen_callee l.env.now.callees.items)) + weight (view l.a.now) + weight (view l.b.now) + 4
+
+abbrev pub decreases-index : goal.decreases-index
+decreases-index g l = functions_weight (take l.n (map seen_callee l.env.now.callees.items)) + weight (view l.a.now) + weight (view l.b.now) + 4
+
+abbrev pub decreases-pair : goal.decreases-pair
+decreases-pair g l = functions_weight (take l.n (map seen_callee l.env.now.callees.items)) + weight (view l.a.now) + weight (view l.b.now) + 4
+
+abbrev pub decreases-choice : goal.decreases-choice
+decreases-choice g l = functions_weight (take l.n (map seen_callee l.env.now.callees.items)) + weight (view l.c.now) + weight (view l.a.now) + weight (view l.b.now) + 4
+
+abbrev pub decreases-called : goal.decreases-called
+decreases-called g l = functions_weight (take l.n (map seen_callee l.env.now.callees.items)) + weights (views l.all.now) + 4
+
 abbrev pub decreases-value : goal.decreases-value
 decreases-value g l = functions_weight (take l.n (map seen_callee l.env.now.callees.items)) + weight (view l.e.now) + 1
 

@@ -1,0 +1,4 @@
+pub mod Fuel
+pub mod Levels
+pub mod Resuming
+pub mod Coding

@@ -1,0 +1,6 @@
+pub mod Numbering
+pub mod Cuts
+pub mod Lists
+pub mod Leaving
+pub mod Printing
+pub mod KnownNumbers

@@ -1,0 +1,12 @@
+pub mod Parts
+pub mod Definitions
+pub mod Predefined
+pub mod Headers
+pub mod Words
+pub mod Operands
+pub mod Directives
+pub mod Entries
+pub mod Numbers
+pub mod Printed
+pub mod Answers
+pub mod Rows
