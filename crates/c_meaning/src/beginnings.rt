@@ -50,6 +50,7 @@ fn is_const(d: &Declared) -> bool
 
 impl<'a> State<'a> {
     /// An object comes into scope, in a block of its own or apart from memory. It isn't set.
+    #[inline(never)]
     pub fn begin_object(
         &mut self,
         alloc: Global,
@@ -79,6 +80,7 @@ impl<'a> State<'a> {
     }
 
     /// An object gets its first value, const or not.
+    #[inline(never)]
     pub fn first_value(&mut self, alloc: Global, binding: Binding<'a>, v: Value) -> Result<(), Stop>
         ensures { Answers (first_value (seen_binding binding.entry) v (seen_state self.old)) result self.new }
     {
@@ -96,6 +98,7 @@ impl<'a> State<'a> {
     }
 
     /// An array gets the bytes of its list, if one is written.
+    #[inline(never)]
     pub fn first_list(&mut self, alloc: Global, d: &Declared) -> Result<(), Stop>
         ensures { (c : Calls) → Answers (initialised (view_declared d.now) None (view_declared d.now).list c (seen_state self.old)) result self.new }
     {
@@ -136,6 +139,7 @@ impl<'a> State<'a> {
     }
 
     /// Parameters begin and get their arguments. Undefined where there are more of one than of the other.
+    #[inline(never)]
     pub fn begin_parameters(
         &mut self,
         alloc: Global,
@@ -164,6 +168,7 @@ impl<'a> State<'a> {
     }
 
     /// The value of a call. The end of a function that isn't `void` isn't reached.
+    #[inline(never)]
     pub fn given(&self, ty: CType, flow: Flow) -> Result<Option<Value>, Stop>
         ensures { Answers (meaning.result ty (seen_flow flow) (seen_state self.now)) result self.now }
     {

@@ -29,6 +29,7 @@ use std::mem::replace;
 /// The value of an expression, or none where its type is `void`. It may call the first `n` functions, and `room` functions of the evaluator that count
 /// themselves may stand within one another.
 #[cycle(run)]
+#[inline(never)]
 fn expression<'a, R: Rows>(
     env: &Environment<'a, '_, R>,
     n: usize,
@@ -325,6 +326,7 @@ fn pair<'a, R: Rows>(
 
 /// The value of an expression. Undefined where it gives none.
 #[cycle(run)]
+#[inline(never)]
 fn value<'a, R: Rows>(
     env: &Environment<'a, '_, R>,
     n: usize,
@@ -340,6 +342,7 @@ fn value<'a, R: Rows>(
 
 /// Whether a condition holds.
 #[cycle(run)]
+#[inline(never)]
 fn holds<'a, R: Rows>(
     env: &Environment<'a, '_, R>,
     n: usize,
@@ -355,6 +358,7 @@ fn holds<'a, R: Rows>(
 
 /// Half of a pair: of an object apart from memory, or of a value.
 #[cycle(run)]
+#[inline(never)]
 fn half<'a, R: Rows>(
     env: &Environment<'a, '_, R>,
     n: usize,
@@ -381,6 +385,7 @@ fn half<'a, R: Rows>(
 
 /// The object that an expression names.
 #[cycle(run)]
+#[inline(never)]
 fn target<'a, R: Rows>(
     env: &Environment<'a, '_, R>,
     n: usize,
@@ -415,6 +420,7 @@ fn target<'a, R: Rows>(
 
 /// The value of the last of several expressions.
 #[cycle(run)]
+#[inline(never)]
 fn last<'a, R: Rows>(
     env: &Environment<'a, '_, R>,
     n: usize,
@@ -433,6 +439,7 @@ fn last<'a, R: Rows>(
 
 /// The values of arguments, from left to right.
 #[cycle(run)]
+#[inline(never)]
 fn values<'a, R: Rows>(
     env: &Environment<'a, '_, R>,
     n: usize,
@@ -452,6 +459,7 @@ fn values<'a, R: Rows>(
 
 /// The call of a name: of the last of the first `n` functions that has it, or else of a row.
 #[cycle(run)]
+#[inline(never)]
 fn call<'a, R: Rows>(
     env: &Environment<'a, '_, R>,
     n: usize,
@@ -476,6 +484,7 @@ fn call<'a, R: Rows>(
 
 /// The call of the function of number `k` with these arguments. It may call those before it.
 #[cycle(run)]
+#[inline(never)]
 pub fn enter<'a, R: Rows>(
     env: &Environment<'a, '_, R>,
     k: usize,
@@ -498,6 +507,7 @@ pub fn enter<'a, R: Rows>(
 
 /// What a function does with these arguments where the tables alone are in scope.
 #[cycle(run)]
+#[inline(never)]
 fn body<'a, R: Rows>(
     env: &Environment<'a, '_, R>,
     n: usize,
@@ -528,6 +538,7 @@ fn body<'a, R: Rows>(
 
 /// What a statement does. The first of `taken` is the statement's.
 #[cycle(run)]
+#[inline(never)]
 fn act<'a, R: Rows>(
     env: &Environment<'a, '_, R>,
     n: usize,
@@ -587,6 +598,7 @@ fn act<'a, R: Rows>(
 
 /// What a statement does that may be left out.
 #[cycle(run)]
+#[inline(never)]
 fn optional_act<'a, R: Rows>(
     env: &Environment<'a, '_, R>,
     n: usize,
@@ -605,6 +617,7 @@ fn optional_act<'a, R: Rows>(
 
 /// What a body does: a statement in a scope of its own. The first of `taken` is the statement's.
 #[cycle(run)]
+#[inline(never)]
 fn in_scope<'a, R: Rows>(
     env: &Environment<'a, '_, R>,
     n: usize,
@@ -624,6 +637,7 @@ fn in_scope<'a, R: Rows>(
 
 /// What the body of an `else` does, which may be left out.
 #[cycle(run)]
+#[inline(never)]
 fn optional_body<'a, R: Rows>(
     env: &Environment<'a, '_, R>,
     n: usize,
@@ -642,6 +656,7 @@ fn optional_body<'a, R: Rows>(
 
 /// What statements in a row do.
 #[cycle(run)]
+#[inline(never)]
 fn sequence<'a, R: Rows>(
     env: &Environment<'a, '_, R>,
     n: usize,
@@ -665,6 +680,7 @@ fn sequence<'a, R: Rows>(
 
 /// Objects come into scope and get their first values, in turn.
 #[cycle(run)]
+#[inline(never)]
 fn declare<'a, R: Rows>(
     env: &Environment<'a, '_, R>,
     n: usize,
@@ -686,6 +702,7 @@ fn declare<'a, R: Rows>(
 
 /// An object gets its first value, where one is written.
 #[cycle(run)]
+#[inline(never)]
 fn initialise<'a, R: Rows>(
     env: &Environment<'a, '_, R>,
     n: usize,
@@ -707,6 +724,7 @@ fn initialise<'a, R: Rows>(
 
 /// A `while` loop. The first of `taken` is its own.
 #[cycle(run)]
+#[inline(never)]
 fn while_loop<'a, R: Rows>(
     env: &Environment<'a, '_, R>,
     n: usize,
@@ -724,6 +742,7 @@ fn while_loop<'a, R: Rows>(
 
 /// A `do` loop. The first of `taken` is its own.
 #[cycle(run)]
+#[inline(never)]
 fn do_loop<'a, R: Rows>(
     env: &Environment<'a, '_, R>,
     n: usize,
@@ -741,6 +760,7 @@ fn do_loop<'a, R: Rows>(
 
 /// The turns of a loop that tests before its body.
 #[cycle(run)]
+#[inline(never)]
 fn turns<'a, R: Rows>(
     env: &Environment<'a, '_, R>,
     n: usize,
@@ -774,6 +794,7 @@ fn turns<'a, R: Rows>(
 
 /// The turns of a loop that tests after its body.
 #[cycle(run)]
+#[inline(never)]
 fn turns_after<'a, R: Rows>(
     env: &Environment<'a, '_, R>,
     n: usize,
@@ -807,6 +828,7 @@ fn turns_after<'a, R: Rows>(
 
 /// The turns of a loop with a step, whose condition and step may be left out.
 #[cycle(run)]
+#[inline(never)]
 fn turns_with<'a, R: Rows>(
     env: &Environment<'a, '_, R>,
     n: usize,
@@ -842,6 +864,7 @@ fn turns_with<'a, R: Rows>(
 
 /// Whether a condition holds that may be left out. Then it does.
 #[cycle(run)]
+#[inline(never)]
 fn optional_holds<'a, R: Rows>(
     env: &Environment<'a, '_, R>,
     n: usize,
@@ -859,6 +882,7 @@ fn optional_holds<'a, R: Rows>(
 
 /// A loop's step, which may be left out.
 #[cycle(run)]
+#[inline(never)]
 fn optional_step<'a, R: Rows>(
     env: &Environment<'a, '_, R>,
     n: usize,

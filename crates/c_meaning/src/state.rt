@@ -86,6 +86,7 @@ impl<'a> Binding<'a> {
 
 impl<'a> State<'a> {
     /// The innermost object of that name.
+    #[inline(never)]
     pub fn object_of(&self, name: &[u8]) -> Result<Binding<'a>, Stop>
         ensures { Shows seen_binding (object_of name.now (seen_state self.now)) result self.now }
     {
@@ -96,6 +97,7 @@ impl<'a> State<'a> {
     }
 
     /// The value of an object, where it is set.
+    #[inline(never)]
     pub fn value_named(&self, binding: Binding<'a>) -> Result<Value, Stop>
         ensures { Answers (value_named (seen_binding binding.entry) (seen_state self.now)) result self.now }
     {
@@ -109,6 +111,7 @@ impl<'a> State<'a> {
     }
 
     /// Half of the value of an object, where that half is set.
+    #[inline(never)]
     pub fn half_named(&self, k: u8, binding: Binding<'a>) -> Result<Value, Stop>
         ensures { Answers (half_named k (seen_binding binding.entry) (seen_state self.now)) result self.now }
     {
@@ -119,6 +122,7 @@ impl<'a> State<'a> {
     }
 
     /// The value of what an assignment sets.
+    #[inline(never)]
     pub fn read_target(&self, ty: CType, target: Target<'a>) -> Result<Value, Stop>
         ensures { Answers (read_target ty (seen_target target.entry) (seen_state self.now)) result self.now }
     {
@@ -136,6 +140,7 @@ impl<'a> State<'a> {
     }
 
     /// Sets what an assignment sets.
+    #[inline(never)]
     pub fn set_target(&mut self, ty: CType, target: Target<'a>, v: Value) -> Result<(), Stop>
         ensures { Answers (set_target ty (seen_target target.entry) v (seen_state self.old)) result self.new }
     {

@@ -37,6 +37,7 @@ impl<'a> State<'a> {
     }
 
     /// An object of a type as a value.
+    #[inline(never)]
     pub fn object_value(&self, ty: CType, binding: Binding<'a>) -> Result<Value, Stop>
         ensures { Answers (object_value ty (seen_binding binding.entry) (seen_state self.now)) result self.now }
     {
@@ -48,6 +49,7 @@ impl<'a> State<'a> {
     }
 
     /// The value of a name.
+    #[inline(never)]
     pub fn value_of_name(&self, name: &[u8]) -> Result<Option<Value>, Stop>
         ensures { Answers (give (λ s. then_do (object_of name.now s) (λ b. object_value b.ty b)) (seen_state self.now)) result self.now }
     {
@@ -57,6 +59,7 @@ impl<'a> State<'a> {
     }
 
     /// The size of a type.
+    #[inline(never)]
     pub fn size_of_type(&self, ty: CType) -> Result<Option<Value>, Stop>
         ensures { Answers (give (size_value ty) (seen_state self.now)) result self.now }
     {
@@ -65,6 +68,7 @@ impl<'a> State<'a> {
     }
 
     /// The size of an object.
+    #[inline(never)]
     pub fn size_of_name(&self, name: &[u8]) -> Result<Option<Value>, Stop>
         ensures { Answers (give (λ s. then_do (object_of name.now s) (λ b. size_value b.ty)) (seen_state self.now)) result self.now }
     {
@@ -84,6 +88,7 @@ impl<'a> State<'a> {
     }
 
     /// The address of what an assignment sets.
+    #[inline(never)]
     pub fn address(&self, target: Target<'a>) -> Result<Value, Stop>
         ensures { Answers (address (seen_target target.entry) (seen_state self.now)) result self.now }
     {
@@ -107,6 +112,7 @@ impl<'a> State<'a> {
     }
 
     /// The value of a conversion, or none where it is to `void`.
+    #[inline(never)]
     pub fn cast_to(&self, ty: CType, v: Option<Value>) -> Result<Option<Value>, Stop>
         ensures { Answers (cast_to ty v (seen_state self.now)) result self.now }
     {
@@ -126,6 +132,7 @@ impl<'a> State<'a> {
     }
 
     /// An assignment, or one with an operator. The right side has the type `right` and the value `w`.
+    #[inline(never)]
     pub fn assigned_by(
         &mut self,
         op: Option<BinOp>,
@@ -150,6 +157,7 @@ impl<'a> State<'a> {
     }
 
     /// A step by one, with the new value or the old one.
+    #[inline(never)]
     pub fn step(
         &mut self,
         ty: CType,
@@ -166,6 +174,7 @@ impl<'a> State<'a> {
     }
 
     /// Half of an object apart from memory.
+    #[inline(never)]
     pub fn half_target(&self, k: u8, target: Target<'a>) -> Result<Target<'a>, Stop>
         ensures { Shows seen_target (half_target k (seen_target target.entry) (seen_state self.now)) result self.now }
     {
@@ -176,6 +185,7 @@ impl<'a> State<'a> {
     }
 
     /// Half of a pair.
+    #[inline(never)]
     pub fn half_of(&self, k: u8, v: Value) -> Result<Value, Stop>
         ensures { Answers (half_of k v (seen_state self.now)) result self.now }
     {
@@ -186,6 +196,7 @@ impl<'a> State<'a> {
     }
 
     /// The pair of two vectors.
+    #[inline(never)]
     pub fn pair_of(&self, v: Value, w: Value) -> Result<Value, Stop>
         ensures { Answers (pair_of v w (seen_state self.now)) result self.now }
     {
@@ -203,6 +214,7 @@ impl<'a> State<'a> {
     }
 
     /// The element of an index: a pointer and an integer, on either side.
+    #[inline(never)]
     pub fn element(&self, left: CType, right: CType, v: Value, w: Value) -> Result<Target<'a>, Stop>
         ensures { Shows seen_target (element left right v w (seen_state self.now)) result self.now }
     {
