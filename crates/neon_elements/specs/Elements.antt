@@ -1,6 +1,6 @@
 -- What is done to elements, by the pseudocode of the Arm Architecture Reference Manual. An element has w bytes; what is stored in it is the
 -- value modulo its size.
-use Rattle.std.specs.Prelude.{ℕ, zero, suc, ◌+◌, ◌-◌, ◌*◌, ◌/◌, ◌%◌, ◌^◌, ℤ, pos, negsuc, ◌+ℤ◌, ◌-ℤ◌, ◌*ℤ◌, min, nat_lt, ◌==◌, int_lt, if◌then◌else◌, bit_and, bit_or, bit_xor, Bool, true, false}
+use Rattle.std.specs.Prelude.{ℕ, zero, suc, ◌+◌, ◌-◌, ◌*◌, ◌/◌, ◌^◌, ℤ, pos, negsuc, ◌+ℤ◌, ◌-ℤ◌, ◌*ℤ◌, min, nat_lt, ◌==◌, int_lt, if◌then◌else◌, bit_and, bit_or, bit_xor, Bool, true, false}
 use Rattle.std.specs.Int.{int_shr}
 use Rattle.lane_core.specs.Register.{signed, wrapped}
 use Rattle.lane_core.specs.declared.vector.NeonLane.{NeonLane}

@@ -1,9 +1,9 @@
 -- What the formulas give: registers of 16 or of 8 bytes, and integers modulo 2 ^ 64.
-use Rattle.std.proofs.Common.{ℕ, ◌<◌, ◌≤◌, ◌*◌, ◌^◌, ◌%◌, List, Bool, refl, inl, inr, arith}
+use Rattle.std.proofs.Common.{ℕ, ◌≤◌, ◌*◌, ◌^◌, List, Bool, refl, inl, inr, arith}
 use Rattle.lane_core.specs.Register.{IsRegister, IsWidth, IsSize}
 use Rattle.lane_core.specs.declared.vector.NeonLane.{NeonLane}
 use Rattle.lane_core.specs.declared.vector.NeonLane.TheVariants.{U8, U16, U32, U64, S8, S16, S32, S64}
-use Rattle.lane_core.proofs.Laws.{IsRegister-build, IsRegister-map1, IsRegister-map2, IsRegister-pairwise, IsRegister-put}
+use Rattle.lane_core.proofs.Laws.{IsRegister-build, IsRegister-map1, IsRegister-map2, IsRegister-pairwise}
 use Rattle.neon_elements.specs.declared.elements.Unary.{Unary}
 use Rattle.neon_elements.specs.declared.elements.Binary.{Binary}
 use Rattle.neon_elements.specs.declared.elements.Compare.{Compare}
@@ -12,8 +12,8 @@ use Rattle.neon_elements.specs.declared.elements.Narrowing.{Narrowing}
 use Rattle.neon_elements.specs.declared.permutes.Permute.{Permute}
 use Rattle.neon_elements.specs.declared.permutes.Permute.TheVariants.{Zip1, Zip2, Uzp1, Uzp2, Trn1, Trn2}
 use Rattle.neon_elements.specs.declared.permutes.Reverse.{Reverse}
-use Rattle.neon_elements.specs.Elements.{bytes_of, unary_of, binary_of}
-use Rattle.neon_elements.specs.Vectors.{each1, each2, compared, selected, shifted, shifted_left, shifted_right, lengthened, lengthened_high, pair_sums, long_pair_sums, widened, widened_high, narrowed, shift_narrowed, extracted, looked_up, zipped, unzipped, transposed, permuted, reversed_lane, reversed, duplicated_lane, duplicated, created, combined, half, with_element}
+use Rattle.neon_elements.specs.Elements.{bytes_of}
+use Rattle.neon_elements.specs.Vectors.{each1, each2, compared, selected, shifted, shifted_left, shifted_right, lengthened, lengthened_high, pair_sums, long_pair_sums, widened, widened_high, narrowed, shift_narrowed, extracted, looked_up, zipped, unzipped, transposed, permuted, reversed_lane, reversed, duplicated_lane, duplicated, created, combined, half}
 
 pub width_is : (t : NeonLane) → IsWidth (bytes_of t)
 width_is U8 = inl refl

@@ -1,11 +1,11 @@
 //! What is done to elements.
 
-ghost use Rattle.std.specs.Prelude.{◌≡◌, ◌<◌, ◌≤◌, ◌^◌, ◌%◌, ◌/◌, ◌*◌, ◌+◌, ◌-◌, pos, negsuc, ◌≤ℤ◌, ◌<ℤ◌, ◌+ℤ◌, ◌-ℤ◌, int_lt, nat_lt, min, if◌then◌else◌};
+ghost use Rattle.std.specs.Prelude.{◌≡◌, ◌<◌, ◌≤◌, ◌^◌, ◌%◌, ◌/◌, ◌*◌, ◌+◌, ◌-◌, pos, negsuc, ◌≤ℤ◌, ◌<ℤ◌, ◌+ℤ◌, ◌-ℤ◌, int_lt, nat_lt, if◌then◌else◌};
 ghost use Rattle.lane_core.specs.Register.{IsWidth, signed};
 ghost use Rattle.neon_elements.specs.declared.elements.Unary.TheVariants.{Absolute};
 ghost use Rattle.neon_elements.specs.declared.elements.Binary.TheVariants.{Sub, SaturatingAdd, SaturatingSub, RoundingHalvingAdd, AbsoluteDifference, Min, Max, Bic};
 ghost use Rattle.neon_elements.specs.declared.elements.Long.TheVariants.{Product, Difference};
-ghost use Rattle.neon_elements.specs.Elements.{bytes_of, has_sign, int_of, signed_sat, unsigned_sat, sat, abs_of, unary_of, binary_of, compare_of, ones_if, select_of, left_of, right_of, shift_of, long_of, long_sum_of, long_element_of, narrow_of, round_const, narrow_shift_of, integer_of};
+ghost use Rattle.neon_elements.specs.Elements.{bytes_of, has_sign, int_of, signed_sat, unsigned_sat, sat, abs_of, unary_of, binary_of, compare_of, ones_if, select_of, left_of, right_of, shift_of, long_of, long_sum_of, long_element_of, narrow_of, narrow_shift_of, integer_of};
 
 use lane_core::vector::NeonLane;
 use lane_core::widths::{product, signed, size, wrapped};

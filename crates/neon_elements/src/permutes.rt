@@ -1,7 +1,6 @@
 //! What moves elements within and between vectors.
 
-ghost use Rattle.std.specs.Prelude.{◌≡◌, ◌<◌, ◌≤◌, ◌*◌, ◌/◌};
-ghost use Rattle.lane_core.specs.Register.{lane};
+ghost use Rattle.std.specs.Prelude.{◌≡◌, ◌<◌, ◌*◌, ◌/◌};
 ghost use Rattle.neon_elements.specs.Elements.{bytes_of};
 ghost use Rattle.neon_elements.specs.Vectors.{extracted, looked_up, zipped, unzipped, transposed, permuted, reversed_lane, container_of, mirrored, reversed};
 

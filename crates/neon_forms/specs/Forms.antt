@@ -1,5 +1,5 @@
 -- The forms of rows: what a row of each form takes and touches, by the Arm Neon Intrinsics Reference.
-use Rattle.std.specs.Prelude.{ℕ, zero, suc, ◌-◌, ◌*◌, ◌/◌, pos, List, [], ◌∷◌, Bool, true, false, Option, Some, None}
+use Rattle.std.specs.Prelude.{ℕ, zero, suc, ◌-◌, ◌*◌, ◌/◌, pos, [], ◌∷◌, Bool, true, false, Option, Some, None}
 use Rattle.lane_core.specs.declared.number.IntType.{IntType}
 use Rattle.lane_core.specs.declared.number.IntType.TheVariants as int
 use Rattle.lane_core.specs.declared.vector.NeonLane.{NeonLane}

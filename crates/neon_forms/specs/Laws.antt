@@ -1,7 +1,7 @@
 -- What holds of every form: the signature counts its parameters, the value is of the result's kind, and accesses lie in the row's register.
-use Rattle.std.proofs.Common.{◌≡◌, ℕ, ◌+◌, ◌*◌, ◌<◌, ◌≤◌, ◌^◌, ◌/◌, ◌%◌, zero, suc, List, [], ◌∷◌, length, Bool, true, false, arith, refl}
+use Rattle.std.proofs.Common.{◌≡◌, ℕ, ◌+◌, ◌<◌, ◌≤◌, ◌^◌, zero, suc, List, [], ◌∷◌, length, Bool, true, false, arith, refl}
 use Rattle.std.specs.Prelude.{IfSome}
-use Rattle.lane_core.specs.Register.{IsRegister, lane}
+use Rattle.lane_core.specs.Register.{IsRegister}
 use Rattle.lane_core.specs.declared.vector.NeonLane.{NeonLane}
 use Rattle.lane_core.specs.declared.vector.NeonLane.TheVariants.{U8, U16, U32, U64, S8, S16, S32, S64}
 use Rattle.lane_core.specs.declared.table.Access.{Access}
@@ -9,7 +9,7 @@ use Rattle.lane_core.specs.declared.table.Arg.{Arg}
 use Rattle.lane_core.specs.declared.table.Arg.TheVariants as arg
 use Rattle.lane_core.specs.declared.table.ParamKind.{ParamKind}
 use Rattle.lane_core.specs.declared.table.ParamKind.TheVariants as kind
-use Rattle.lane_core.specs.Table.{Fits, FitsKind, FitsKinds, FitsResult, IsArg, IsNumber}
+use Rattle.lane_core.specs.Table.{Fits, FitsKind, FitsKinds, FitsResult, IsArg}
 use Rattle.lane_core.proofs.Laws.{IsRegister-put}
 use Rattle.lane_core.proofs.Signed.{wrapped_below}
 use Rattle.neon_elements.specs.declared.vectors.Across.{Across}

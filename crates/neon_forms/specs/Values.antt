@@ -1,5 +1,5 @@
 -- The values of rows, by the formula of each form over the row's arguments.
-use Rattle.std.specs.Prelude.{ℕ, List, [], ◌∷◌, Bool, true, false}
+use Rattle.std.specs.Prelude.{ℕ, List, [], ◌∷◌}
 use Rattle.lane_core.specs.declared.table.Arg.{Arg}
 use Rattle.lane_core.specs.declared.table.Arg.TheVariants as arg
 use Rattle.neon_elements.specs.declared.elements.Narrowing.TheVariants.{Saturate}
