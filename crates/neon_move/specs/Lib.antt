@@ -1,1 +1,10 @@
-pub mod Memory
+pub mod WidenedRows
+pub mod NarrowedRows
+pub mod PermutingRows
+pub mod HalvesRows
+pub mod PlacesRows
+pub mod ToUnsignedRows
+pub mod ToSignedRows
+pub mod BytesRows
+pub mod Named
+pub mod Rows

@@ -5,7 +5,11 @@ use Rattle.c_text.specs.declared.tokens.Dialect.TheVariants.{Neon}
 use Rattle.c_text.specs.declared.tokens.Place.{Place}
 use Rattle.simd_top.specs.declared.rows.FormRow.{FormRow}
 use Rattle.simd_top.specs.declared.rows.FormRow.TheVariants.{AddEpi8, SubEpi8, AvgEpu8, MinEpu8, XorSi128}
-use Rattle.neon_lane.specs.Rows as neon
+use Rattle.row_names.specs.Groups.{first_named}
+use Rattle.neon_lane.specs.ArithmeticRows as neon_arithmetic
+use Rattle.neon_lane.specs.SaturatingRows as neon_saturating
+use Rattle.neon_lane.specs.ExtremesRows as neon_extremes
+use Rattle.neon_lane.specs.LogicRows as neon_logic
 use Rattle.neon_table.specs.Rows as neon_table
 use Rattle.c_tree.specs.declared.types.CType.{CType}
 use Rattle.c_tree.specs.Tree.{Tree, Kind, Trees, Node, Const, Name, Unary, Step, Binary, AndThen, OrElse, Choice, Assign, Comma, Cast, Index, Deref, Address, Call, Half, PairOf, SizeOfType, SizeOfName, Str, NoTrees, More}
@@ -22,13 +26,13 @@ use Rattle.simd_top.specs.Rows.{intel_row, neon_name, moved_row}
 use Rattle.simd_top.specs.Form.{is_in, is_expression, is_kind, are_expressions}
 use Rattle.simd_top.specs.Written.{register, moved_call, moved_tree, moved_kind}
 use Rattle.simd_top.proofs.Conjunction.{split_and}
-use Rattle.simd_top.proofs.Values.{row_of, rows_same, row_register}
+use Rattle.simd_top.proofs.Values.{row_of, moved_row_of, rows_same, row_register}
 
 -- the calls do the five rows, those of the source by Intel's table and those of the written unit by Arm's
 abbrev pub DoRows : Calls → Calls → Type 0
 DoRows c d = (f : List ℕ) (op : FormRow) (a b : List ℕ) (s t : State) → intel_row f ≡ Some op →
     (c f (Value.R16 a ∷ Value.R16 b ∷ []) s ≡ Done (Some (Value.R16 (row_of op a b))) s)
-    × (d (neon_name (moved_row op)) (Value.R16 a ∷ Value.R16 b ∷ []) t ≡ Done (Some (Value.R16 (neon.row_of (moved_row op) a b))) t)
+    × (d (neon_name (moved_row op)) (Value.R16 a ∷ Value.R16 b ∷ []) t ≡ Done (Some (Value.R16 (moved_row_of op a b))) t)
 
 -- both give the same register, and change nothing
 pub record BothGive (p q : Does (Option Value)) (s t : State) : Type 0 where
@@ -129,7 +133,7 @@ call_typed : (op : FormRow) (p q r : Place) (k l : Kind) (a b : Tree) (scope : S
     check a (seen scope functions here calls_none) ≡ Ok (Node q register k) → check b (seen scope functions here calls_none) ≡ Ok (Node r register l) →
     check_kind (Call (neon_name (moved_row op)) (More a (More b NoTrees))) p (seen scope functions here calls_none)
     ≡ Ok (Node p register (Call (neon_name (moved_row op)) (More (Node q register k) (More (Node r register l) NoTrees))))
-unfolding neon_table.find_of
+unfolding neon_table.find_of neon_table.lane_rows first_named neon_arithmetic.arithmetic_rows neon_saturating.saturating_rows neon_extremes.extremes_rows neon_logic.logic_rows
 call_typed AddEpi8 p q r k l a b scope functions here calls_none h i m n = rw (h, i, m, n) refl
 call_typed SubEpi8 p q r k l a b scope functions here calls_none h i m n = rw (h, i, m, n) refl
 call_typed AvgEpu8 p q r k l a b scope functions here calls_none h i m n = rw (h, i, m, n) refl

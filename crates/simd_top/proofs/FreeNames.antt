@@ -7,6 +7,11 @@ use Rattle.std.proofs.lemmas.Slice.Eq.{bytes_eq-Decides}
 use Rattle.c_text.specs.declared.tokens.Dialect.TheVariants.{X86, Neon}
 use Rattle.simd_top.specs.declared.rows.FormRow.{FormRow}
 use Rattle.simd_top.specs.declared.rows.FormRow.TheVariants.{AddEpi8, SubEpi8, AvgEpu8, MinEpu8, XorSi128}
+use Rattle.row_names.specs.Groups.{first_named}
+use Rattle.neon_lane.specs.ArithmeticRows as neon_arithmetic
+use Rattle.neon_lane.specs.SaturatingRows as neon_saturating
+use Rattle.neon_lane.specs.ExtremesRows as neon_extremes
+use Rattle.neon_lane.specs.LogicRows as neon_logic
 use Rattle.neon_table.specs.Rows as neon_table
 use Rattle.object_types.specs.Reserved.{is_reserved, is_vector_type, is_predefined}
 use Rattle.vector_types.specs.Rows.{is_neon_row}
@@ -42,7 +47,7 @@ intel_reserved MinEpu8 = refl
 intel_reserved XorSi128 = refl
 
 neon_reserved : (op : FormRow) → is_reserved X86 (is_neon_row (neon_name (moved_row op))) (neon_name (moved_row op)) ≡ true
-unfolding neon_table.find_of
+unfolding neon_table.find_of neon_table.lane_rows first_named neon_arithmetic.arithmetic_rows neon_saturating.saturating_rows neon_extremes.extremes_rows neon_logic.logic_rows
 neon_reserved AddEpi8 = refl
 neon_reserved SubEpi8 = refl
 neon_reserved AvgEpu8 = refl

@@ -1,7 +1,6 @@
 -- The Neon row that stands for a row has its value.
 use Rattle.std.proofs.Common.{◌≡◌, ℕ, ◌+◌, ◌-◌, ◌/◌, ◌%◌, ◌^◌, ◌<◌, List, [], ◌∷◌, Bool, true, false, cond, Option, Some, None, refl, sym, ◌∙◌, ap, arith, inl, inr}
-use Rattle.std.specs.Prelude.{pos, ◌-ℤ◌, min, bit_xor, nat_le, codes, bytes_eq}
-use Rattle.std.proofs.lemmas.Int.{ints}
+use Rattle.std.specs.Prelude.{pos, ◌-ℤ◌, min, bit_xor, nat_lt, codes, bytes_eq}
 use Rattle.std.proofs.lemmas.Slice.Eq.{bytes_eq-Decides}
 use Rattle.std.proofs.Math.Nat.{mod-mod}
 use Rattle.std.proofs.lemmas.Bool.Decides.{nat_tests}
@@ -11,8 +10,16 @@ use Rattle.lane_core.proofs.Laws.{map2_same, IsRegister-map2}
 use Rattle.c_text.specs.declared.tokens.Dialect.TheVariants.{X86, Neon}
 use Rattle.simd_top.specs.declared.rows.FormRow.{FormRow}
 use Rattle.simd_top.specs.declared.rows.FormRow.TheVariants.{AddEpi8, SubEpi8, AvgEpu8, MinEpu8, XorSi128}
-use Rattle.neon_lane.specs.Rows as neon
 use Rattle.row_names.specs.Groups.{first_named}
+use Rattle.lane_core.specs.declared.vector.NeonLane.TheVariants.{U8}
+use Rattle.neon_elements.specs.declared.elements.Binary.{Binary}
+use Rattle.neon_elements.specs.declared.elements.Binary.TheVariants.{Add, Sub, RoundingHalvingAdd, Min, Eor}
+use Rattle.neon_elements.specs.Elements.{binary_of}
+use Rattle.neon_elements.specs.Vectors.{each2}
+use Rattle.neon_lane.specs.ArithmeticRows as neon_arithmetic
+use Rattle.neon_lane.specs.SaturatingRows as neon_saturating
+use Rattle.neon_lane.specs.ExtremesRows as neon_extremes
+use Rattle.neon_lane.specs.LogicRows as neon_logic
 use Rattle.intel_lanes.specs.Blocks.{lanes2}
 use Rattle.intel_base.specs.ArithmeticRows.{arithmetic_rows}
 use Rattle.intel_base.specs.LogicRows.{logic_rows}
@@ -35,24 +42,32 @@ lane_of XorSi128 x y = bit_xor x y
 unfoldable pub row_of : FormRow → List ℕ → List ℕ → List ℕ
 row_of op a b = map2_of 1 16 (lane_of op) a b
 
-difference : (x y : ℕ) → x < 256 → y < 256 → wrapped 1 (pos x -ℤ pos y) % 256 ≡ (x + (256 - y)) % 256
-unfolding wrapped
-difference x y h k = grind (arith, ints)
+-- what the Neon row does to two bytes, in the words of Arm's reference
+abbrev element_by : FormRow → Binary
+element_by AddEpi8 = Add
+element_by SubEpi8 = Sub
+element_by AvgEpu8 = RoundingHalvingAdd
+element_by MinEpu8 = Min
+element_by XorSi128 = Eor
 
-least : (x y : ℕ) → min x y % 256 ≡ cond (nat_le x y) x y % 256
+-- the Neon row's result
+abbrev pub moved_row_of : FormRow → List ℕ → List ℕ → List ℕ
+moved_row_of op a b = each2 (element_by op) U8 a b
+
+least : (x y : ℕ) → min x y % 256 ≡ cond (nat_lt y x) y x % 256
 least x y = grind (arith, nat_tests)
 
-lanes_same : (op : FormRow) (x y : ℕ) → x < 256 ^ 1 → y < 256 ^ 1 → lane_of op x y % 256 ^ 1 ≡ neon.element_of (moved_row op) x y % 256 ^ 1
+lanes_same : (op : FormRow) (x y : ℕ) → x < 256 ^ 1 → y < 256 ^ 1 → lane_of op x y % 256 ^ 1 ≡ binary_of (element_by op) U8 x y % 256 ^ 1
 unfolding wrapped
 lanes_same AddEpi8 x y h k = refl
-lanes_same SubEpi8 x y h k = difference x y h k
+lanes_same SubEpi8 x y h k = refl
 lanes_same AvgEpu8 x y h k = sym (mod-mod ((x + y + 1) / 2) 256)
 lanes_same MinEpu8 x y h k = least x y
 lanes_same XorSi128 x y h k = refl
 
-pub rows_same : (op : FormRow) (a b : List ℕ) → IsRegister 16 a → IsRegister 16 b → row_of op a b ≡ neon.row_of (moved_row op) a b
-unfolding row_of neon.row_of
-rows_same op a b h k = map2_same 1 16 (lane_of op) (neon.element_of (moved_row op)) a b h.bytes k.bytes (lanes_same op)
+pub rows_same : (op : FormRow) (a b : List ℕ) → IsRegister 16 a → IsRegister 16 b → row_of op a b ≡ moved_row_of op a b
+unfolding row_of each2
+rows_same op a b h k = map2_same 1 16 (lane_of op) (binary_of (element_by op) U8) a b h.bytes k.bytes (lanes_same op)
 
 pub row_register : (op : FormRow) (a b : List ℕ) → IsRegister 16 (row_of op a b)
 unfolding row_of
@@ -94,8 +109,8 @@ intel_call XorSi128 a b s = refl
 
 -- and of the Neon row that stands for it
 pub neon_call : (op : FormRow) (a b : List ℕ) (s : State) →
-    rows Neon (neon_name (moved_row op)) (Value.R16 a ∷ Value.R16 b ∷ []) s ≡ Done (Some (Value.R16 (neon.row_of (moved_row op) a b))) s
-unfolding neon_table.find_of
+    rows Neon (neon_name (moved_row op)) (Value.R16 a ∷ Value.R16 b ∷ []) s ≡ Done (Some (Value.R16 (moved_row_of op a b))) s
+unfolding neon_table.find_of neon_table.lane_rows first_named neon_arithmetic.arithmetic_rows neon_saturating.saturating_rows neon_extremes.extremes_rows neon_logic.logic_rows
 neon_call AddEpi8 a b s = refl
 neon_call SubEpi8 a b s = refl
 neon_call AvgEpu8 a b s = refl

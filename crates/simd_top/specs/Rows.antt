@@ -3,7 +3,12 @@ use Rattle.std.specs.Prelude.{ℕ, List, Option, Some, None, if◌then◌else◌
 use Rattle.simd_top.specs.declared.rows.FormRow.{FormRow}
 use Rattle.simd_top.specs.declared.rows.FormRow.TheVariants.{AddEpi8, SubEpi8, AvgEpu8, MinEpu8, XorSi128}
 use Rattle.neon_lane.specs.declared.LaneOp.{LaneOp}
-use Rattle.neon_lane.specs.declared.LaneOp.TheVariants.{VaddqU8, VsubqU8, VrhaddqU8, VminqU8, VeorqU8}
+use Rattle.neon_lane.specs.declared.LaneOp.TheVariants.{Arithmetic, Saturating, Extremes, Logic}
+use Rattle.neon_lane.specs.declared.arithmetic.Arithmetic.TheVariants.{VaddqU8, VsubqU8}
+use Rattle.neon_lane.specs.declared.saturating.Saturating.TheVariants.{VrhaddqU8}
+use Rattle.neon_lane.specs.declared.extremes.Extremes.TheVariants.{VminqU8}
+use Rattle.neon_lane.specs.declared.logic.Logic.TheVariants.{VeorqU8}
+use Rattle.neon_lane.specs.Named.{name_of}
 
 -- the row of a name, by Intel's Intrinsics Guide
 abbrev pub intel_row : List ℕ → Option FormRow
@@ -17,16 +22,12 @@ intel_row x =
 
 -- the names of Arm's Neon Intrinsics Reference
 abbrev pub neon_name : LaneOp → List ℕ
-neon_name VaddqU8 = codes "vaddq_u8"
-neon_name VsubqU8 = codes "vsubq_u8"
-neon_name VrhaddqU8 = codes "vrhaddq_u8"
-neon_name VminqU8 = codes "vminq_u8"
-neon_name VeorqU8 = codes "veorq_u8"
+neon_name op = name_of op
 
 -- the Neon row that stands for a row
 abbrev pub moved_row : FormRow → LaneOp
-moved_row AddEpi8 = VaddqU8
-moved_row SubEpi8 = VsubqU8
-moved_row AvgEpu8 = VrhaddqU8
-moved_row MinEpu8 = VminqU8
-moved_row XorSi128 = VeorqU8
+moved_row AddEpi8 = Arithmetic VaddqU8
+moved_row SubEpi8 = Arithmetic VsubqU8
+moved_row AvgEpu8 = Saturating VrhaddqU8
+moved_row MinEpu8 = Extremes VminqU8
+moved_row XorSi128 = Logic VeorqU8

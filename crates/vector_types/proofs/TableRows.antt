@@ -104,7 +104,7 @@ unfolding intel.find_of first_named
 intel_found x = refl
 
 pub neon_found : (x : List ℕ) → row_of_table Neon x ≡ found neon.name_of (λ op. row_told (neon.signature_of op) (neon.range_of op)) x neon.rows
-unfolding neon.find_of
+unfolding neon.find_of first_named
 neon_found x = refl
 
 kept_some : {A B : Type 0} (g : A → B) (m : Option A) → is_some (option_map g m) ≡ is_some m
@@ -116,7 +116,7 @@ abbrev pub named_only : NeonOp → Unit {0}
 named_only op = tt
 
 pub neon_name : (x : List ℕ) → is_some (found neon.name_of named_only x neon.rows) ≡ is_neon_row x
-unfolding neon.find_of
+unfolding neon.find_of first_named
 neon_name x = kept_some named_only (find (λ op. same_name (neon.name_of op) x) neon.rows)
 
 -- no name among none
