@@ -47,8 +47,8 @@ impl From<AllocError> for Stop {
 }
 
 /// The functions of the evaluator that count themselves (those of expressions, of statements and of calls) and may stand within one another: what
-/// goes deeper has no room on the machine's stack, which is want of memory.
-pub const ROOM: usize = 8192;
+/// goes deeper has no room on a stack of 8 megabytes, where each takes at most some 1,200 bytes and the words of the command line up to 2 megabytes.
+pub const ROOM: usize = 5000;
 
 /// The room that is left for what stands within. The only error is that there is none.
 pub fn within(room: usize) -> Result<usize, AllocError>

@@ -37,6 +37,8 @@ struct TableRows<'t, T> {
 impl<'t, T: VectorTable> Rows for TableRows<'t, T> {
     ghost row_call = { call_of_row (rows_of T.find_of T.signature_of T.range_of T.accesses_of T.access_of T.eval_of) };
 
+    // Its arrays of arguments aren't to stand in the frames of the recursion.
+    #[inline(never)]
     fn call<'a>(
         &self,
         alloc: Global,
