@@ -1,7 +1,7 @@
 -- The functions that a run may call, looked up by their names.
-use Rattle.std.proofs.Common.{◌≡◌, ℕ, zero, suc, ◌+◌, ◌<◌, ◌≤◌, true, false, not, List, [], ◌∷◌, map, min, length, take, drop, refl, sym, ap, ◌∙◌, arith, slice_index_or, subst, if◌then◌else◌}
+use Rattle.std.proofs.Common.{◌≡◌, ℕ, zero, suc, ◌+◌, ◌<◌, ◌≤◌, true, false, not, List, [], ◌∷◌, map, length, take, refl, sym, ap, ◌∙◌, arith, slice_index_or, subst, if◌then◌else◌}
 use Rattle.std.proofs.lemmas.Bool.{and_parts, and_from, not-true, false≢true}
-use Rattle.std.proofs.lemmas.List.{take-map, take-take, take_min, length-take, get_or-take}
+use Rattle.std.proofs.lemmas.List.{take-map, take-take, get_or-take}
 use Rattle.std.specs.Str.{bytes_eq}
 use Rattle.c_memory.specs.declared.value.Value.{Value}
 use Rattle.c_memory.specs.MeaningState.{State, Binding, ◌>>◌, then_do, undefined}
@@ -13,13 +13,6 @@ use Rattle.c_meaning.specs.Flagged.{Flagged, call_of, with_function, calls_with,
 use Rattle.c_meaning.specs.Callees.{seen_callee, calls_at, none_called, is_last_called}
 use Rattle.c_meaning.specs.Marked.{none_flagged, is_first_flagged}
 use Rattle.c_meaning.specs.Weights.{statements_weight, functions_weight}
-
-pub last_called_from : (name : List ℕ) (xs : List Callee) (k : ℕ) (d : Callee) → k < length xs → bytes_eq name (slice_index_or xs k d).function.now.name ≡ true → none_called name (drop (k + 1) xs) ≡ true → is_last_called name xs k ≡ true
-last_called_from name [] k d l h n = absurd (omega arith)
-last_called_from name (x ∷ xs) zero d l h n = and_from (bytes_eq name x.function.now.name) (none_called name xs) h n
-last_called_from name (x ∷ xs) (suc k) d l h n =
-    let e : suc k + 1 ≡ suc (k + 1) = omega arith in
-    last_called_from name xs k d (omega arith) h (subst (λ m. none_called name (drop m (x ∷ xs)) ≡ true) e n)
 
 pub first_flagged_from : (name : List ℕ) (xs : List Callee) (k : ℕ) (d : Callee) → k < length xs → none_flagged name (map seen_callee (take k xs)) ≡ true → bytes_eq name (slice_index_or xs k d).function.now.name ≡ true → is_first_flagged name (map seen_callee xs) k ≡ true
 first_flagged_from name [] k d l n h = absurd (omega arith)
@@ -56,15 +49,14 @@ last_of tables c (x ∷ xs) (suc k) d name args h = last_of tables (with_functio
 pub call_passed : (tables : Objects) (c : Calls) (all : List Callee) (n : ℕ) (name : List ℕ) (args : List Value) → none_called name (take n all) ≡ true → calls_at tables c all n name args ≡ c name args
 call_passed tables c all n name args h = ap (λ fs. calls_with (seen_objects tables) c fs name args) (take-map seen_callee n all) ∙ none_of (seen_objects tables) c (take n all) name args h
 
-pub call_found : (tables : Objects) (c : Calls) (all : List Callee) (n m k : ℕ) (d : Callee) (name : List ℕ) (args : List Value) →
-    take m all ≡ take n all → k < m → is_last_called name (take m all) k ≡ true →
+pub call_found : (tables : Objects) (c : Calls) (all : List Callee) (n k : ℕ) (d : Callee) (name : List ℕ) (args : List Value) → k < n → is_last_called name (take n all) k ≡ true →
     calls_at tables c all n name args ≡ (spend_for name >> call_of (seen_objects tables) (seen_callee (slice_index_or all k d)) (calls_at tables c all k) args)
-call_found tables c all n m k d name args same below h =
-    let rest : take k (map seen_callee (take m all)) ≡ take k (map seen_callee all) = take-map seen_callee k (take m all) ∙ ap (map seen_callee) (take-take k m all (omega arith)) ∙ sym (take-map seen_callee k all) in
-    let it : slice_index_or (take m all) k d ≡ slice_index_or all k d = get_or-take m all k d below in
-    ap (λ fs. calls_with (seen_objects tables) c fs name args) (take-map seen_callee n all ∙ ap (map seen_callee) (sym same))
-    ∙ last_of (seen_objects tables) c (take m all) k d name args h
-    ∙ ap (λ f. spend_for name >> call_of (seen_objects tables) (seen_callee f) (calls_with (seen_objects tables) c (take k (map seen_callee (take m all)))) args) it
+call_found tables c all n k d name args below h =
+    let rest : take k (map seen_callee (take n all)) ≡ take k (map seen_callee all) = take-map seen_callee k (take n all) ∙ ap (map seen_callee) (take-take k n all (omega arith)) ∙ sym (take-map seen_callee k all) in
+    let it : slice_index_or (take n all) k d ≡ slice_index_or all k d = get_or-take n all k d below in
+    ap (λ fs. calls_with (seen_objects tables) c fs name args) (take-map seen_callee n all)
+    ∙ last_of (seen_objects tables) c (take n all) k d name args h
+    ∙ ap (λ f. spend_for name >> call_of (seen_objects tables) (seen_callee f) (calls_with (seen_objects tables) c (take k (map seen_callee (take n all)))) args) it
     ∙ ap (λ fs. spend_for name >> call_of (seen_objects tables) (seen_callee (slice_index_or all k d)) (calls_with (seen_objects tables) c fs) args) rest
 
 -- the weight of a function and of those before it
@@ -104,28 +96,18 @@ outermost_enters tables c all k it name args s h e =
     ap (λ p. p s) (outermost_found tables c all k it name args h) ∙ ap (λ f. call_of (seen_objects tables) (seen_callee f) (calls_at tables c all k) args s) (sym e)
 
 -- the call of the function at the place k, where its element is known
-pub call_enters : (tables : Objects) (c : Calls) (all shown : List Callee) (n m k : ℕ) (it : Callee) (name : List ℕ) (args : List Value) (s : State) →
-    shown ≡ all → m ≡ min n (length all) → k < length (take m shown) → is_last_called name (take m shown) k ≡ true → it ≡ slice_index_or all k it →
+pub call_enters : (tables : Objects) (c : Calls) (all : List Callee) (n k : ℕ) (it : Callee) (name : List ℕ) (args : List Value) (s : State) →
+    k < n → is_last_called name (take n all) k ≡ true → it ≡ slice_index_or all k it →
     calls_at tables c all n name args s ≡ then_do (spend_for name s) (λ _. call_of (seen_objects tables) (seen_callee it) (calls_at tables c all k) args)
-call_enters tables c all shown n m k it name args s seen count within last e =
-    let same : take m all ≡ take n all = ap (λ i. take i all) count ∙ take_min n all in
-    let here : is_last_called name (take m all) k ≡ true = ap (λ l. is_last_called name (take m l) k) (sym seen) ∙ last in
-    let below : k < m = omega (arith, length-take m shown) in
-    ap (λ p. p s) (call_found tables c all n m k it name args same below here)
+call_enters tables c all n k it name args s below last e =
+    ap (λ p. p s) (call_found tables c all n k it name args below last)
     ∙ ap (λ f. then_do (spend_for name s) (λ _. call_of (seen_objects tables) (seen_callee f) (calls_at tables c all k) args)) (sym e)
 
-pub call_of_no_function : (tables : Objects) (c : Calls) (all shown : List Callee) (n m : ℕ) (name : List ℕ) (args : List Value) (s : State) →
-    shown ≡ all → m ≡ min n (length all) → none_called name (take m shown) ≡ true → calls_at tables c all n name args s ≡ c name args s
-call_of_no_function tables c all shown n m name args s seen count none =
-    let same : take m shown ≡ take n all = ap (λ l. take m l) seen ∙ ap (λ i. take i all) count ∙ take_min n all in
-    ap (λ p. p s) (call_passed tables c all n name args (ap (none_called name) (sym same) ∙ none))
+pub call_of_no_function : (tables : Objects) (c : Calls) (all : List Callee) (n : ℕ) (name : List ℕ) (args : List Value) (s : State) → none_called name (take n all) ≡ true → calls_at tables c all n name args s ≡ c name args s
+call_of_no_function tables c all n name args s none = ap (λ p. p s) (call_passed tables c all n name args none)
 
 -- what a call goes down
-pub weight_falls : (all shown : List Callee) (n m k : ℕ) (it : Callee) → shown ≡ all → m ≡ min n (length all) → k < length (take m shown) → it ≡ slice_index_or all k it →
+pub weight_falls : (all : List Callee) (n k : ℕ) (it : Callee) → k < n → k < length all → it ≡ slice_index_or all k it →
     functions_weight (take k (map seen_callee all)) + statements_weight (seen_callee it).function.body + 8 ≤ functions_weight (take n (map seen_callee all))
-weight_falls all shown n m k it seen count within e =
-    let long : length (take m shown) ≡ min m (length shown) = length-take m shown in
-    let same : length shown ≡ length all = ap length seen in
-    let below : k < n = omega arith in
-    let inside : k < length all = omega arith in
+weight_falls all n k it below inside e =
     subst (λ f. functions_weight (take k (map seen_callee all)) + statements_weight (seen_callee f).function.body + 8 ≤ functions_weight (take n (map seen_callee all))) (sym e) (weight_before all n k it below inside)

@@ -5,3 +5,5 @@ pub mod Same
 pub mod Ends
 pub mod Units
 pub mod Made
+pub mod Placed
+pub mod Indexed

@@ -1,21 +1,22 @@
 -- What a run knows of a unit: its functions and its tables.
-use Rattle.std.proofs.Common.{◌≡◌, ℕ, ◌+◌, Bool, List, [], ◌∷◌, ◌++◌, map, length, sym, ap, ◌∙◌, subst}
+use Rattle.std.proofs.Common.{◌≡◌, ℕ, ◌+◌, Bool, List, [], ◌∷◌, ◌++◌, map, length, Result, Ok, Err, IfOk, refl, sym, ap, ◌∙◌, subst}
 use Rattle.std.proofs.lemmas.List.{map-append, append_assoc, append-nil, length_push}
 use Rattle.c_tree.specs.declared.statements.Declared.{Declared}
-use Rattle.c_tree.specs.declared.units.Function.{Function}
+use Rattle.c_tree.specs.declared.units.Function.{Function as CodeFunction}
 use Rattle.c_tree.specs.declared.units.Item.{Item}
-use Rattle.c_tree.specs.Tree.{External}
-use Rattle.c_tree.specs.View.{view_declared, view_function, view_item}
+use Rattle.c_tree.specs.Tree.{External, Function, Table}
+use Rattle.c_tree.specs.View.{view_declared, view_item}
 use Rattle.c_memory.specs.declared.blocks.Block.{Block}
 use Rattle.c_memory.specs.declared.value.Value.{Value}
-use Rattle.c_memory.specs.Outcomes.{Outcome}
+use Rattle.c_memory.specs.Outcomes.{Outcome, outcome_of}
+use Rattle.c_memory.specs.declared.outcome.Outcome.{Outcome as CodeOutcome}
+use Rattle.std.specs.declared.alloc.AllocError.{AllocError}
 use Rattle.c_memory.specs.MeaningState as state
 use Rattle.c_memory.specs.MeaningState.{InBlock}
 use Rattle.c_memory.specs.Meaning.{Calls, outcome, means, functions, table_block, table_blocks, table_objects}
 use Rattle.c_meaning.specs.declared.calls.Callee.{Callee}
 use Rattle.c_meaning.specs.declared.objects.Binding.{Binding}
-use Rattle.c_meaning.specs.declared.objects.Objects.{Objects}
-use Rattle.c_meaning.specs.Seen.{seen_binding, seen_objects}
+use Rattle.c_meaning.specs.Seen.{seen_binding}
 use Rattle.c_meaning.specs.Flagged.{Flagged, outermost}
 use Rattle.c_meaning.specs.Callees.{seen_callee}
 use Rattle.c_meaning.specs.Marked.{marked}
@@ -27,25 +28,28 @@ use Rattle.c_meaning.proofs.Ends.{means_ended}
 abbrev pub known : List Callee → List Item → List Flagged
 known out items = map seen_callee out ++ map marked (functions (map view_item items))
 
-pub table_passed : (whole : List Flagged) (out : List Callee) (all rest : List Item) (d : Declared) (s : Bool) → known out all ≡ whole → all ≡ Item.Table d s ∷ rest → known out rest ≡ whole
-table_passed whole out all rest d s h e = ap (known out) (sym e) ∙ h
+pub nothing_more : (fs : List Flagged) → fs ≡ fs ++ []
+nothing_more fs = sym (append-nil fs)
 
-pub function_known : (whole : List Flagged) (out out' : List Callee) (all rest : List Item) (f : Function) (x : Callee) → known out all ≡ whole → all ≡ Item.Function f ∷ rest → out' ≡ out ++ x ∷ [] → seen_callee x ≡ marked (view_function f) → known out' rest ≡ whole
-function_known whole out out' all rest f x h e pushed same =
+noted : (x : External) (rest : List External) → map marked (functions (x ∷ rest)) ≡ map marked (functions (x ∷ [])) ++ map marked (functions rest)
+noted (Function f) rest = refl
+noted (Table d s) rest = refl
+
+pub known_more : (whole : List Flagged) (out out' : List Callee) (all rest : List Item) (x : Item) → known out all ≡ whole → all ≡ x ∷ rest → map seen_callee out' ≡ map seen_callee out ++ map marked (functions (view_item x ∷ [])) → known out' rest ≡ whole
+known_more whole out out' all rest x h e more =
     let others = map marked (functions (map view_item rest)) in
-    ap (λ o. map seen_callee o ++ others) pushed
-    ∙ ap (λ o. o ++ others) (map-append seen_callee out (x ∷ []))
-    ∙ append_assoc (map seen_callee out) (seen_callee x ∷ []) others
-    ∙ ap (λ y. map seen_callee out ++ (y ∷ others)) same
+    ap (λ o. o ++ others) more
+    ∙ append_assoc (map seen_callee out) (map marked (functions (view_item x ∷ []))) others
+    ∙ ap (λ o. map seen_callee out ++ o) (sym (noted (view_item x) (map view_item rest)))
     ∙ ap (known out) (sym e) ∙ h
 
 pub functions_known : (whole : List Flagged) (out : List Callee) → known out [] ≡ whole → map seen_callee out ≡ whole
 functions_known whole out h = sym (append-nil (map seen_callee out)) ∙ h
 
-pub passed_block : (whole blocks : List Block) (all rest : List Item) (f : Function) → blocks ++ table_blocks (map view_item all) ≡ whole → all ≡ Item.Function f ∷ rest → blocks ++ table_blocks (map view_item rest) ≡ whole
+pub passed_block : (whole blocks : List Block) (all rest : List Item) (f : CodeFunction) → blocks ++ table_blocks (map view_item all) ≡ whole → all ≡ Item.Function f ∷ rest → blocks ++ table_blocks (map view_item rest) ≡ whole
 passed_block whole blocks all rest f h e = ap (λ l. blocks ++ table_blocks (map view_item l)) (sym e) ∙ h
 
-pub passed_object : (whole : List state.Binding) (out : List Binding) (n : ℕ) (all rest : List Item) (f : Function) → map seen_binding out ++ table_objects n (map view_item all) ≡ whole → all ≡ Item.Function f ∷ rest → map seen_binding out ++ table_objects n (map view_item rest) ≡ whole
+pub passed_object : (whole : List state.Binding) (out : List Binding) (n : ℕ) (all rest : List Item) (f : CodeFunction) → map seen_binding out ++ table_objects n (map view_item all) ≡ whole → all ≡ Item.Function f ∷ rest → map seen_binding out ++ table_objects n (map view_item rest) ≡ whole
 passed_object whole out n all rest f h e = ap (λ l. map seen_binding out ++ table_objects n (map view_item l)) (sym e) ∙ h
 
 pub table_begun : (whole blocks blocks' : List Block) (all rest : List Item) (d : Declared) (s : Bool) (b : Block) → blocks ++ table_blocks (map view_item all) ≡ whole → all ≡ Item.Table d s ∷ rest → blocks' ≡ blocks ++ b ∷ [] → b ≡ table_block (view_declared d) → blocks' ++ table_blocks (map view_item rest) ≡ whole
@@ -76,15 +80,21 @@ tables_in_scope whole out n h = sym (append-nil (map seen_binding out)) ∙ h
 abbrev pub begun : List Block → List External → ℕ → state.State
 begun memory unit turns = record { objects = []; memory = memory ++ table_blocks unit; left = turns }
 
-pub run_means : (rows : Calls) (unit : List External) (name : List ℕ) (args : List Value) (memory blocks : List Block) (turns : ℕ) (tables : Objects) (callees : List Callee) (o : Outcome) →
-    o ≡ outcome (outermost (seen_objects tables) rows (map seen_callee callees) name args (record { objects = []; memory = blocks; left = turns })) →
-    map seen_callee callees ≡ map marked (functions unit) → seen_objects tables ≡ table_objects (length memory) unit → blocks ≡ memory ++ table_blocks unit →
-    o ≡ means rows unit name args memory turns
-run_means rows unit name args memory blocks turns tables callees o h fs ts bs =
-    h ∙ ap (λ m. outcome (outermost (seen_objects tables) rows (map seen_callee callees) name args (record { objects = []; memory = m; left = turns }))) bs
-    ∙ ap (λ t. outcome (outermost t rows (map seen_callee callees) name args (begun memory unit turns))) ts
+means_from : (rows : Calls) (unit : List External) (name : List ℕ) (args : List Value) (memory blocks : List Block) (turns : ℕ) (tables here : List state.Binding) (callees : List Flagged) →
+    here ≡ [] → callees ≡ map marked (functions unit) → tables ≡ table_objects (length memory) unit → blocks ≡ memory ++ table_blocks unit →
+    outcome (outermost tables rows callees name args (record { objects = here; memory = blocks; left = turns })) ≡ means rows unit name args memory turns
+means_from rows unit name args memory blocks turns tables here callees none fs ts bs =
+    ap (λ l. outcome (outermost tables rows callees name args (record { objects = l; memory = blocks; left = turns }))) none
+    ∙ ap (λ m. outcome (outermost tables rows callees name args (record { objects = []; memory = m; left = turns }))) bs
+    ∙ ap (λ t. outcome (outermost t rows callees name args (begun memory unit turns))) ts
     ∙ ap (λ l. outcome (outermost (table_objects (length memory) unit) rows l name args (begun memory unit turns))) fs
     ∙ ap (λ p. outcome (p (begun memory unit turns))) (outermost_same (table_objects (length memory) unit) rows (functions unit) name args)
+
+pub run_means : (rows : Calls) (unit : List External) (name : List ℕ) (args : List Value) (memory blocks : List Block) (turns : ℕ) (tables here : List state.Binding) (callees : List Flagged) (r : Result CodeOutcome AllocError) →
+    IfOk r (λ o. outcome_of o ≡ outcome (outermost tables rows callees name args (record { objects = here; memory = blocks; left = turns }))) →
+    here ≡ [] → callees ≡ map marked (functions unit) → tables ≡ table_objects (length memory) unit → blocks ≡ memory ++ table_blocks unit → IfOk r (λ o. outcome_of o ≡ means rows unit name args memory turns)
+run_means rows unit name args memory blocks turns tables here callees (Ok o) h none fs ts bs = h ∙ means_from rows unit name args memory blocks turns tables here callees none fs ts bs
+run_means rows unit name args memory blocks turns tables here callees (Err e) h none fs ts bs = tt
 
 pub run_ended : (rows : Calls) (unit : List External) (name : List ℕ) (args : List Value) (memory : List Block) (turns : ℕ) (o : Outcome) → o ≡ means rows unit name args memory turns → HaveEnded (length memory + length (table_blocks unit)) o
 run_ended rows unit name args memory turns o e = subst (HaveEnded (length memory + length (table_blocks unit))) (sym e) (means_ended rows unit name args memory turns)

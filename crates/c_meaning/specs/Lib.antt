@@ -4,5 +4,7 @@ pub mod Answers
 pub mod Flagged
 pub mod Weights
 pub mod Callees
+pub mod Places
+pub mod Indexed
 pub mod Marked
 pub mod Ended

@@ -1,9 +1,10 @@
 //! The functions that a run may call, and what it knows of the unit.
 
 ghost use Rattle.std.specs.Prelude.{◌≡◌, ◌<◌, true, IfSome, IfNone, length, map};
-ghost use Rattle.c_meaning.specs.Callees.{seen_callee, none_called, is_last_called};
+ghost use Rattle.c_meaning.specs.Callees.{seen_callee};
 ghost use Rattle.c_meaning.specs.Marked.{none_flagged, is_first_flagged};
 
+use crate::functions::Callees;
 use crate::objects::Objects;
 use address_taken::FunctionTaken;
 use c_memory::Value;
@@ -15,6 +16,8 @@ use std::alloc::Global;
 pub struct Callee<'a> {
     pub function: &'a Function,
     pub taken: FunctionTaken,
+    /// The place of the last function before it that has its name.
+    pub same: Option<usize>,
 }
 
 /// What stays the same during a run.
@@ -26,7 +29,7 @@ pub struct Environment<'a, 'r, R> {
     /// The unit's tables.
     pub tables: Objects<'a>,
     /// The unit's functions in order. Each may call those before it.
-    pub callees: Vec<Callee<'a>>,
+    pub callees: Callees<'a>,
 }
 
 /// How a statement ends.
@@ -51,24 +54,6 @@ pub fn first_called(callees: &[Callee<'_>], name: &[u8]) -> Option<usize>
 {
     for (k, callee) in callees.iter().enumerate() {
         let function = callee.function;
-        if name == function.name.bytes() {
-            return Some(k);
-        }
-    }
-    None
-}
-
-/// The place of the last of these functions that has the name.
-#[tactic(auto, using(crate::proofs::Callees::last_called_from))]
-pub fn last_called(callees: &[Callee<'_>], name: &[u8]) -> Option<usize>
-    ensures within { IfSome result (λ k. k < length callees.now) }
-    ensures last { IfSome result (λ k. is_last_called name.now callees.now k ≡ true) }
-    ensures none { IfNone result (none_called name.now callees.now ≡ true) }
-{
-    let mut k = callees.len();
-    while k > 0 {
-        k -= 1;
-        let function = callees[k].function;
         if name == function.name.bytes() {
             return Some(k);
         }

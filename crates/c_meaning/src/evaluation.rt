@@ -13,7 +13,7 @@ ghost use Rattle.c_meaning.specs.Callees.{seen_callee, seen_flow, calls_at};
 ghost use Rattle.c_meaning.specs.Flagged.{parts_of, declare, act, optional_act, optional_body, sequence, call_of, body_of};
 
 use crate::beginnings::is_block;
-use crate::calls::{Callee, Environment, Flow, last_called};
+use crate::calls::{Callee, Environment, Flow};
 use crate::flags::{after_start, first_flag, flags_of, other_flags, parts_of, rest_of};
 use crate::names::name_in;
 use crate::rows::Rows;
@@ -37,7 +37,7 @@ fn expression<'a, R: Rows>(
     state: &mut State<'a>,
     e: &'a Expr,
 ) -> Result<Option<Value>, Stop>
-    ensures { Answers (expression (view e.now) (calls_at env.now.tables R.row_call env.now.callees.items n) (seen_state state.old)) result state.new }
+    ensures { Answers (expression (view e.now) (calls_at env.now.tables R.row_call env.now.callees.all.items n) (seen_state state.old)) result state.new }
 {
     let room = within(room)?;
     match &*e.kind {
@@ -76,7 +76,7 @@ fn unary<'a, R: Rows>(
     op: UnOp,
     a: &'a Expr,
 ) -> Result<Option<Value>, Stop>
-    ensures { Answers (kind_expression ty (Unary op (view a.now)) (calls_at env.now.tables R.row_call env.now.callees.items n) (seen_state state.old)) result state.new }
+    ensures { Answers (kind_expression ty (Unary op (view a.now)) (calls_at env.now.tables R.row_call env.now.callees.all.items n) (seen_state state.old)) result state.new }
 {
     let v = value(env, n, room, state, a)?;
     let w = operators::operate_before(&state.memory, op, v).ok_or(Stop::Undefined)?;
@@ -96,7 +96,7 @@ fn step<'a, R: Rows>(
     up: bool,
     before: bool,
 ) -> Result<Option<Value>, Stop>
-    ensures { Answers (kind_expression ty (Step (view a.now) up before) (calls_at env.now.tables R.row_call env.now.callees.items n) (seen_state state.old)) result state.new }
+    ensures { Answers (kind_expression ty (Step (view a.now) up before) (calls_at env.now.tables R.row_call env.now.callees.all.items n) (seen_state state.old)) result state.new }
 {
     let place = target(env, n, room, state, a)?;
     let v = state.step(ty, up, before, place)?;
@@ -116,7 +116,7 @@ fn binary<'a, R: Rows>(
     a: &'a Expr,
     b: &'a Expr,
 ) -> Result<Option<Value>, Stop>
-    ensures { Answers (kind_expression ty (Binary op (view a.now) (view b.now)) (calls_at env.now.tables R.row_call env.now.callees.items n) (seen_state state.old)) result state.new }
+    ensures { Answers (kind_expression ty (Binary op (view a.now) (view b.now)) (calls_at env.now.tables R.row_call env.now.callees.all.items n) (seen_state state.old)) result state.new }
 {
     let v = value(env, n, room, state, a)?;
     let w = value(env, n, room, state, b)?;
@@ -136,7 +136,7 @@ fn and_then<'a, R: Rows>(
     a: &'a Expr,
     b: &'a Expr,
 ) -> Result<Option<Value>, Stop>
-    ensures { Answers (kind_expression ty (AndThen (view a.now) (view b.now)) (calls_at env.now.tables R.row_call env.now.callees.items n) (seen_state state.old)) result state.new }
+    ensures { Answers (kind_expression ty (AndThen (view a.now) (view b.now)) (calls_at env.now.tables R.row_call env.now.callees.all.items n) (seen_state state.old)) result state.new }
 {
     if holds(env, n, room, state, a)? {
         let w = holds(env, n, room, state, b)?;
@@ -158,7 +158,7 @@ fn or_else<'a, R: Rows>(
     a: &'a Expr,
     b: &'a Expr,
 ) -> Result<Option<Value>, Stop>
-    ensures { Answers (kind_expression ty (OrElse (view a.now) (view b.now)) (calls_at env.now.tables R.row_call env.now.callees.items n) (seen_state state.old)) result state.new }
+    ensures { Answers (kind_expression ty (OrElse (view a.now) (view b.now)) (calls_at env.now.tables R.row_call env.now.callees.all.items n) (seen_state state.old)) result state.new }
 {
     if holds(env, n, room, state, a)? {
         Ok(Some(operators::as_int(true)))
@@ -181,7 +181,7 @@ fn choice<'a, R: Rows>(
     a: &'a Expr,
     b: &'a Expr,
 ) -> Result<Option<Value>, Stop>
-    ensures { Answers (kind_expression ty (Choice (view c.now) (view a.now) (view b.now)) (calls_at env.now.tables R.row_call env.now.callees.items n) (seen_state state.old)) result state.new }
+    ensures { Answers (kind_expression ty (Choice (view c.now) (view a.now) (view b.now)) (calls_at env.now.tables R.row_call env.now.callees.all.items n) (seen_state state.old)) result state.new }
 {
     if holds(env, n, room, state, c)? {
         expression(env, n, room, state, a)
@@ -203,7 +203,7 @@ fn assign<'a, R: Rows>(
     a: &'a Expr,
     b: &'a Expr,
 ) -> Result<Option<Value>, Stop>
-    ensures { Answers (kind_expression ty (Assign op (view a.now) (view b.now)) (calls_at env.now.tables R.row_call env.now.callees.items n) (seen_state state.old)) result state.new }
+    ensures { Answers (kind_expression ty (Assign op (view a.now) (view b.now)) (calls_at env.now.tables R.row_call env.now.callees.all.items n) (seen_state state.old)) result state.new }
 {
     let place = target(env, n, room, state, a)?;
     let w = value(env, n, room, state, b)?;
@@ -222,7 +222,7 @@ fn cast<'a, R: Rows>(
     ty: CType,
     a: &'a Expr,
 ) -> Result<Option<Value>, Stop>
-    ensures { Answers (kind_expression ty (Cast ty (view a.now) true) (calls_at env.now.tables R.row_call env.now.callees.items n) (seen_state state.old)) result state.new }
+    ensures { Answers (kind_expression ty (Cast ty (view a.now) true) (calls_at env.now.tables R.row_call env.now.callees.all.items n) (seen_state state.old)) result state.new }
 {
     let v = expression(env, n, room, state, a)?;
     state.cast_to(ty, v)
@@ -240,7 +240,7 @@ fn index<'a, R: Rows>(
     a: &'a Expr,
     b: &'a Expr,
 ) -> Result<Option<Value>, Stop>
-    ensures { Answers (kind_expression ty (Index (view a.now) (view b.now)) (calls_at env.now.tables R.row_call env.now.callees.items n) (seen_state state.old)) result state.new }
+    ensures { Answers (kind_expression ty (Index (view a.now) (view b.now)) (calls_at env.now.tables R.row_call env.now.callees.all.items n) (seen_state state.old)) result state.new }
 {
     let v = value(env, n, room, state, a)?;
     let w = value(env, n, room, state, b)?;
@@ -260,7 +260,7 @@ fn deref<'a, R: Rows>(
     ty: CType,
     a: &'a Expr,
 ) -> Result<Option<Value>, Stop>
-    ensures { Answers (kind_expression ty (Deref (view a.now)) (calls_at env.now.tables R.row_call env.now.callees.items n) (seen_state state.old)) result state.new }
+    ensures { Answers (kind_expression ty (Deref (view a.now)) (calls_at env.now.tables R.row_call env.now.callees.all.items n) (seen_state state.old)) result state.new }
 {
     let v = value(env, n, room, state, a)?;
     let place = state.there(v)?;
@@ -279,7 +279,7 @@ fn address<'a, R: Rows>(
     ty: CType,
     a: &'a Expr,
 ) -> Result<Option<Value>, Stop>
-    ensures { Answers (kind_expression ty (Address (view a.now)) (calls_at env.now.tables R.row_call env.now.callees.items n) (seen_state state.old)) result state.new }
+    ensures { Answers (kind_expression ty (Address (view a.now)) (calls_at env.now.tables R.row_call env.now.callees.all.items n) (seen_state state.old)) result state.new }
 {
     let place = target(env, n, room, state, a)?;
     let v = state.address(place)?;
@@ -298,7 +298,7 @@ fn called<'a, R: Rows>(
     f: &'a Text,
     all: &'a [Expr],
 ) -> Result<Option<Value>, Stop>
-    ensures { Answers (kind_expression ty (Call f.now (views all.now)) (calls_at env.now.tables R.row_call env.now.callees.items n) (seen_state state.old)) result state.new }
+    ensures { Answers (kind_expression ty (Call f.now (views all.now)) (calls_at env.now.tables R.row_call env.now.callees.all.items n) (seen_state state.old)) result state.new }
 {
     let given = values(env, n, room, state, all)?;
     call(env, n, room, state, f.bytes(), given.as_slice())
@@ -316,7 +316,7 @@ fn pair<'a, R: Rows>(
     a: &'a Expr,
     b: &'a Expr,
 ) -> Result<Option<Value>, Stop>
-    ensures { Answers (kind_expression ty (PairOf (view a.now) (view b.now)) (calls_at env.now.tables R.row_call env.now.callees.items n) (seen_state state.old)) result state.new }
+    ensures { Answers (kind_expression ty (PairOf (view a.now) (view b.now)) (calls_at env.now.tables R.row_call env.now.callees.all.items n) (seen_state state.old)) result state.new }
 {
     let v = value(env, n, room, state, a)?;
     let w = value(env, n, room, state, b)?;
@@ -334,7 +334,7 @@ fn value<'a, R: Rows>(
     state: &mut State<'a>,
     e: &'a Expr,
 ) -> Result<Value, Stop>
-    ensures { Answers (its_value (expression (view e.now) (calls_at env.now.tables R.row_call env.now.callees.items n)) (seen_state state.old)) result state.new }
+    ensures { Answers (its_value (expression (view e.now) (calls_at env.now.tables R.row_call env.now.callees.all.items n)) (seen_state state.old)) result state.new }
 {
     let v = expression(env, n, room, state, e)?;
     v.ok_or(Stop::Undefined)
@@ -350,7 +350,7 @@ fn holds<'a, R: Rows>(
     state: &mut State<'a>,
     e: &'a Expr,
 ) -> Result<bool, Stop>
-    ensures { Answers (condition (expression (view e.now) (calls_at env.now.tables R.row_call env.now.callees.items n)) (seen_state state.old)) result state.new }
+    ensures { Answers (condition (expression (view e.now) (calls_at env.now.tables R.row_call env.now.callees.all.items n)) (seen_state state.old)) result state.new }
 {
     let v = value(env, n, room, state, e)?;
     operators::holds(&state.memory, v).ok_or(Stop::Undefined)
@@ -367,7 +367,7 @@ fn half<'a, R: Rows>(
     e: &'a Expr,
     k: u8,
 ) -> Result<Option<Value>, Stop>
-    ensures { Answers (half_expression (name_in (view e.now)) k (expression (view e.now) (calls_at env.now.tables R.row_call env.now.callees.items n)) (seen_state state.old)) result state.new }
+    ensures { Answers (half_expression (name_in (view e.now)) k (expression (view e.now) (calls_at env.now.tables R.row_call env.now.callees.all.items n)) (seen_state state.old)) result state.new }
 {
     match name_in(e) {
         Some(x) => {
@@ -393,7 +393,7 @@ fn target<'a, R: Rows>(
     state: &mut State<'a>,
     e: &'a Expr,
 ) -> Result<Target<'a>, Stop>
-    ensures { Shows seen_target (target (view e.now) (calls_at env.now.tables R.row_call env.now.callees.items n) (seen_state state.old)) result state.new }
+    ensures { Shows seen_target (target (view e.now) (calls_at env.now.tables R.row_call env.now.callees.all.items n) (seen_state state.old)) result state.new }
 {
     let room = within(room)?;
     match &*e.kind {
@@ -428,7 +428,7 @@ fn last<'a, R: Rows>(
     state: &mut State<'a>,
     all: &'a [Expr],
 ) -> Result<Option<Value>, Stop>
-    ensures { Answers (last None (views all.now) (calls_at env.now.tables R.row_call env.now.callees.items n) (seen_state state.old)) result state.new }
+    ensures { Answers (last None (views all.now) (calls_at env.now.tables R.row_call env.now.callees.all.items n) (seen_state state.old)) result state.new }
 {
     let mut v = None;
     for e in all {
@@ -447,7 +447,7 @@ fn values<'a, R: Rows>(
     state: &mut State<'a>,
     all: &'a [Expr],
 ) -> Result<Vec<Value>, Stop>
-    ensures { Shows (λ v. v.items) (values (views all.now) (calls_at env.now.tables R.row_call env.now.callees.items n) (seen_state state.old)) result state.new }
+    ensures { Shows (λ v. v.items) (values (views all.now) (calls_at env.now.tables R.row_call env.now.callees.all.items n) (seen_state state.old)) result state.new }
 {
     let mut given = Vec::new(env.alloc);
     for e in all {
@@ -468,14 +468,12 @@ fn call<'a, R: Rows>(
     name: &[u8],
     given: &[Value],
 ) -> Result<Option<Value>, Stop>
-    ensures { Answers (calls_at env.now.tables R.row_call env.now.callees.items n name.now given.now (seen_state state.old)) result state.new }
+    ensures { Answers (calls_at env.now.tables R.row_call env.now.callees.all.items n name.now given.now (seen_state state.old)) result state.new }
 {
-    let callees = env.callees.as_slice();
-    let count = n.min(callees.len());
-    match last_called(&callees[..count], name) {
+    match env.callees.last_called(n, name) {
         None => env.rows.call(env.alloc, state, name, given),
         Some(k) => {
-            let callee = &env.callees[k];
+            let callee = &env.callees.all[k];
             state.spend_for(name)?;
             enter(env, k, room, state, callee, given)
         }
@@ -493,7 +491,7 @@ pub fn enter<'a, R: Rows>(
     callee: &Callee<'a>,
     given: &[Value],
 ) -> Result<Option<Value>, Stop>
-    ensures { Answers (call_of (seen_objects env.now.tables) (seen_callee callee.now) (calls_at env.now.tables R.row_call env.now.callees.items k) given.now (seen_state state.old)) result state.new }
+    ensures { Answers (call_of (seen_objects env.now.tables) (seen_callee callee.now) (calls_at env.now.tables R.row_call env.now.callees.all.items k) given.now (seen_state state.old)) result state.new }
 {
     let room = within(room)?;
     let tables = env.tables.copy(env.alloc)?;
@@ -516,7 +514,7 @@ fn body<'a, R: Rows>(
     callee: &Callee<'a>,
     given: &[Value],
 ) -> Result<Option<Value>, Stop>
-    ensures { Answers (body_of (seen_callee callee.now) (calls_at env.now.tables R.row_call env.now.callees.items n) given.now (seen_state state.old)) result state.new }
+    ensures { Answers (body_of (seen_callee callee.now) (calls_at env.now.tables R.row_call env.now.callees.all.items n) given.now (seen_state state.old)) result state.new }
 {
     let function = callee.function;
     state.begin_parameters(
@@ -547,7 +545,7 @@ fn act<'a, R: Rows>(
     s: &'a Stmt,
     taken: &[Taken],
 ) -> Result<Flow, Stop>
-    ensures { Shows seen_flow (act (view_stmt s.now) (seen_all taken.now) (calls_at env.now.tables R.row_call env.now.callees.items n) (seen_state state.old)) result state.new }
+    ensures { Shows seen_flow (act (view_stmt s.now) (seen_all taken.now) (calls_at env.now.tables R.row_call env.now.callees.all.items n) (seen_state state.old)) result state.new }
 {
     let room = within(room)?;
     match s {
@@ -607,7 +605,7 @@ fn optional_act<'a, R: Rows>(
     s: &'a Option<Box<Stmt>>,
     taken: &[Taken],
 ) -> Result<Flow, Stop>
-    ensures { Shows seen_flow (optional_act (view_optional s.now) (seen_all taken.now) (calls_at env.now.tables R.row_call env.now.callees.items n) (seen_state state.old)) result state.new }
+    ensures { Shows seen_flow (optional_act (view_optional s.now) (seen_all taken.now) (calls_at env.now.tables R.row_call env.now.callees.all.items n) (seen_state state.old)) result state.new }
 {
     match s {
         None => Ok(Flow::Next),
@@ -626,7 +624,7 @@ fn in_scope<'a, R: Rows>(
     s: &'a Stmt,
     taken: &[Taken],
 ) -> Result<Flow, Stop>
-    ensures { Shows seen_flow (scoped (act (view_stmt s.now) (seen_all taken.now) (calls_at env.now.tables R.row_call env.now.callees.items n)) (seen_state state.old)) result state.new }
+    ensures { Shows seen_flow (scoped (act (view_stmt s.now) (seen_all taken.now) (calls_at env.now.tables R.row_call env.now.callees.all.items n)) (seen_state state.old)) result state.new }
 {
     let objects = state.objects.len();
     let blocks = state.memory.blocks.len();
@@ -646,7 +644,7 @@ fn optional_body<'a, R: Rows>(
     s: &'a Option<Box<Stmt>>,
     taken: &[Taken],
 ) -> Result<Flow, Stop>
-    ensures { Shows seen_flow (optional_body (view_optional s.now) (seen_all taken.now) (calls_at env.now.tables R.row_call env.now.callees.items n) (seen_state state.old)) result state.new }
+    ensures { Shows seen_flow (optional_body (view_optional s.now) (seen_all taken.now) (calls_at env.now.tables R.row_call env.now.callees.all.items n) (seen_state state.old)) result state.new }
 {
     match s {
         None => Ok(Flow::Next),
@@ -665,7 +663,7 @@ fn sequence<'a, R: Rows>(
     all: &'a [Stmt],
     taken: &[Taken],
 ) -> Result<Flow, Stop>
-    ensures { Shows seen_flow (sequence (view_stmts all.now) (seen_all taken.now) (calls_at env.now.tables R.row_call env.now.callees.items n) (seen_state state.old)) result state.new }
+    ensures { Shows seen_flow (sequence (view_stmts all.now) (seen_all taken.now) (calls_at env.now.tables R.row_call env.now.callees.all.items n) (seen_state state.old)) result state.new }
 {
     let mut left = taken;
     for s in all {
@@ -689,7 +687,7 @@ fn declare<'a, R: Rows>(
     all: &'a [Declared],
     flags: &[bool],
 ) -> Result<(), Stop>
-    ensures { Answers (declare (map view_declared all.now) flags.now (calls_at env.now.tables R.row_call env.now.callees.items n) (seen_state state.old)) result state.new }
+    ensures { Answers (declare (map view_declared all.now) flags.now (calls_at env.now.tables R.row_call env.now.callees.all.items n) (seen_state state.old)) result state.new }
 {
     let mut left = flags;
     for d in all {
@@ -710,7 +708,7 @@ fn initialise<'a, R: Rows>(
     state: &mut State<'a>,
     d: &'a Declared,
 ) -> Result<(), Stop>
-    ensures { Answers (initialised (view_declared d.now) (view_declared d.now).init (view_declared d.now).list (calls_at env.now.tables R.row_call env.now.callees.items n) (seen_state state.old)) result state.new }
+    ensures { Answers (initialised (view_declared d.now) (view_declared d.now).init (view_declared d.now).list (calls_at env.now.tables R.row_call env.now.callees.all.items n) (seen_state state.old)) result state.new }
 {
     match &d.init {
         None => state.first_list(env.alloc, d),
@@ -734,7 +732,7 @@ fn while_loop<'a, R: Rows>(
     s: &'a Stmt,
     taken: &[Taken],
 ) -> Result<Flow, Stop>
-    ensures { let calls = calls_at env.now.tables R.row_call env.now.callees.items n in
+    ensures { let calls = calls_at env.now.tables R.row_call env.now.callees.all.items n in
         Shows seen_flow (loops state.old.left (condition (expression (view c.now) calls)) (scoped (act (view_stmt s.now) (parts_of (seen_all taken.now)) calls)) (seen_state state.old)) result state.new }
 {
     turns(env, n, room, state, c, s, parts_of(taken))
@@ -752,7 +750,7 @@ fn do_loop<'a, R: Rows>(
     c: &'a Expr,
     taken: &[Taken],
 ) -> Result<Flow, Stop>
-    ensures { let calls = calls_at env.now.tables R.row_call env.now.callees.items n in
+    ensures { let calls = calls_at env.now.tables R.row_call env.now.callees.all.items n in
         Shows seen_flow (loops_after state.old.left (condition (expression (view c.now) calls)) (scoped (act (view_stmt s.now) (parts_of (seen_all taken.now)) calls)) (seen_state state.old)) result state.new }
 {
     turns_after(env, n, room, state, s, c, parts_of(taken))
@@ -770,7 +768,7 @@ fn turns<'a, R: Rows>(
     s: &'a Stmt,
     taken: &[Taken],
 ) -> Result<Flow, Stop>
-    ensures { let calls = calls_at env.now.tables R.row_call env.now.callees.items n in
+    ensures { let calls = calls_at env.now.tables R.row_call env.now.callees.all.items n in
         Shows seen_flow (loops state.old.left (condition (expression (view c.now) calls)) (scoped (act (view_stmt s.now) (seen_all taken.now) calls)) (seen_state state.old)) result state.new }
 {
     let mut most = state.left;
@@ -804,7 +802,7 @@ fn turns_after<'a, R: Rows>(
     c: &'a Expr,
     taken: &[Taken],
 ) -> Result<Flow, Stop>
-    ensures { let calls = calls_at env.now.tables R.row_call env.now.callees.items n in
+    ensures { let calls = calls_at env.now.tables R.row_call env.now.callees.all.items n in
         Shows seen_flow (loops_after state.old.left (condition (expression (view c.now) calls)) (scoped (act (view_stmt s.now) (seen_all taken.now) calls)) (seen_state state.old)) result state.new }
 {
     let mut most = state.left;
@@ -839,7 +837,7 @@ fn turns_with<'a, R: Rows>(
     s: &'a Stmt,
     taken: &[Taken],
 ) -> Result<Flow, Stop>
-    ensures { let calls = calls_at env.now.tables R.row_call env.now.callees.items n in
+    ensures { let calls = calls_at env.now.tables R.row_call env.now.callees.all.items n in
         Shows seen_flow (loops state.old.left (optional_condition (option_map view c.now) calls) (with_step (scoped (act (view_stmt s.now) (seen_all taken.now) calls)) (optional_value (option_map view next.now) calls)) (seen_state state.old)) result state.new }
 {
     let mut most = state.left;
@@ -872,7 +870,7 @@ fn optional_holds<'a, R: Rows>(
     state: &mut State<'a>,
     c: &'a Option<Expr>,
 ) -> Result<bool, Stop>
-    ensures { Answers (optional_condition (option_map view c.now) (calls_at env.now.tables R.row_call env.now.callees.items n) (seen_state state.old)) result state.new }
+    ensures { Answers (optional_condition (option_map view c.now) (calls_at env.now.tables R.row_call env.now.callees.all.items n) (seen_state state.old)) result state.new }
 {
     match c {
         None => Ok(true),
@@ -890,7 +888,7 @@ fn optional_step<'a, R: Rows>(
     state: &mut State<'a>,
     next: &'a Option<Expr>,
 ) -> Result<Option<Value>, Stop>
-    ensures { Answers (optional_value (option_map view next.now) (calls_at env.now.tables R.row_call env.now.callees.items n) (seen_state state.old)) result state.new }
+    ensures { Answers (optional_value (option_map view next.now) (calls_at env.now.tables R.row_call env.now.callees.all.items n) (seen_state state.old)) result state.new }
 {
     match next {
         None => Ok(None),

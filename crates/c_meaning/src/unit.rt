@@ -1,6 +1,6 @@
 //! The run of a function of a unit.
 
-ghost use Rattle.std.specs.Prelude.{◌≡◌, ◌+◌, ◌++◌, Option, IfOk, OnOk, length, map};
+ghost use Rattle.std.specs.Prelude.{◌≡◌, ◌+◌, ◌++◌, ◌∷◌, [], Option, IfOk, OnOk, length, map};
 ghost use Rattle.c_tree.specs.View.{view_item, view_unit};
 ghost use Rattle.c_memory.specs.Outcomes.{outcome_of};
 ghost use Rattle.c_memory.specs.Meaning.{means, outcome, functions, table_blocks, table_objects};
@@ -10,6 +10,7 @@ ghost use Rattle.c_memory.specs.declared.value.Value.{Value as SeenValue};
 ghost use Rattle.c_meaning.specs.Answers.{Answers};
 ghost use Rattle.c_meaning.specs.Seen.{seen_objects};
 ghost use Rattle.c_meaning.specs.Callees.{seen_callee};
+ghost use Rattle.c_meaning.specs.Indexed.{IsIndexed};
 ghost use Rattle.c_meaning.specs.Marked.{marked};
 ghost use Rattle.c_meaning.specs.Flagged.{outermost};
 ghost use Rattle.c_meaning.specs.States.{seen_state};
@@ -17,7 +18,9 @@ ghost use Rattle.c_meaning.specs.Ended.{HaveEnded};
 
 use crate::calls::{Callee, Environment, first_called};
 use crate::evaluation::enter;
+use crate::functions::{Callees, push};
 use crate::objects::{Binding, Location, Objects};
+use crate::places::Places;
 use crate::rows::Rows;
 use crate::state::{ROOM, State, Stop};
 use address_taken::address_taken;
@@ -56,22 +59,37 @@ impl<'t, T: VectorTable> Rows for TableRows<'t, T> {
     }
 }
 
-/// The functions of a unit, each with whether the addresses of its objects are taken.
-#[tactic(auto, using(crate::proofs::Units::table_passed, crate::proofs::Units::function_known, crate::proofs::Units::functions_known))]
-fn callees_of<'a>(alloc: Global, items: &'a [Item]) -> Result<Vec<Callee<'a>>, AllocError>
-    ensures { IfOk result (λ v. map seen_callee v.items ≡ map marked (functions (map view_item items.now))) }
+/// One more item behind these functions, with whether the addresses of its objects are taken if it is a function.
+#[tactic(auto, using(crate::proofs::Units::nothing_more))]
+fn note<'a>(
+    alloc: Global,
+    all: &mut Vec<Callee<'a>>,
+    places: &mut Places,
+    item: &'a Item,
+) -> Result<(), AllocError>
+    ensures noted { OnOk result (map seen_callee all.new.items ≡ map seen_callee all.old.items ++ map marked (functions (view_item item.now ∷ []))) }
+    ensures indexed { IsIndexed places.old all.old.items → OnOk result (IsIndexed places.new all.new.items) }
 {
-    let mut out = Vec::new(alloc);
-    for item in items {
-        match item {
-            Item::Table(_, _) => {}
-            Item::Function(function) => {
-                let taken = address_taken(alloc, function)?;
-                out.push(Callee { function, taken })?;
-            }
+    match item {
+        Item::Table(_, _) => Ok(()),
+        Item::Function(function) => {
+            let taken = address_taken(alloc, function)?;
+            push(alloc, all, places, function, taken)
         }
     }
-    Ok(out)
+}
+
+/// The functions of a unit, each with whether the addresses of its objects are taken.
+#[tactic(auto, using(crate::proofs::Units::known_more, crate::proofs::Units::functions_known))]
+fn callees_of<'a>(alloc: Global, items: &'a [Item]) -> Result<Callees<'a>, AllocError>
+    ensures { IfOk result (λ c. map seen_callee c.all.items ≡ map marked (functions (map view_item items.now))) }
+{
+    let mut all = Vec::new(alloc);
+    let mut places = Places::new(alloc);
+    for item in items {
+        note(alloc, &mut all, &mut places, item)?;
+    }
+    Ok(Callees { all, places })
 }
 
 /// The unit's tables begin: a block for each, in order. They come into scope.
@@ -139,7 +157,6 @@ fn run_unit<T: VectorTable>(
 }
 
 /// The same, with the tables begun.
-#[tactic(auto, using(crate::proofs::Units::run_means))]
 fn begun<T: VectorTable>(
     alloc: Global,
     table: &T,
@@ -178,13 +195,13 @@ fn outermost<'a, R: Rows>(
     name: &[u8],
     args: &[Value],
 ) -> Result<Outcome, AllocError>
-    ensures { IfOk result (λ o. outcome_of o ≡ outcome (outermost (seen_objects env.now.tables) R.row_call (map seen_callee env.now.callees.items) name.now args.now (seen_state state.entry))) }
+    ensures { IfOk result (λ o. outcome_of o ≡ outcome (outermost (seen_objects env.now.tables) R.row_call (map seen_callee env.now.callees.all.items) name.now args.now (seen_state state.entry))) }
 {
-    match first_called(env.callees.as_slice(), name) {
+    match first_called(env.callees.all.as_slice(), name) {
         None => Ok(Outcome::Undefined),
         Some(k) => {
             let mut state = state;
-            let callee = &env.callees[k];
+            let callee = &env.callees.all[k];
             let entered = enter(env, k, ROOM, &mut state, callee, args);
             outcome(entered, state)
         }
