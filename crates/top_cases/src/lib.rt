@@ -2,6 +2,10 @@
 #![tactic(auto)]
 
 #[cfg(test)]
+mod arm_rows;
+#[cfg(test)]
+mod intel_rows;
+#[cfg(test)]
 mod rows;
 #[cfg(test)]
 mod top_calls;
