@@ -4,11 +4,13 @@
 It reads the rows and their forms from crates/intel_*/specs/*Rows.antt and writes a C program that calls each. The first row of a formula has three
 calls or more, every other row one. Registers have lanes at 0, 1, 7F.., 80.., FF.. of every width, and counts lie on both sides of the width.
 
-With no word it prints a table for the tests in crates/cases: the text of a function that calls the row, and behind it, on lines that begin with a
+With no word it prints a table for the tests in crates/top_cases: the text of a function that calls the row, and behind it, on lines that begin with a
 space, the items of a run and what it prints, `$` for a line end but the last. With `run PROGRAM` it runs `PROGRAM run x86` on each, compares, and
 prints rows, calls and differences; with `cases FOLDER` it writes each unit, its words and its output as files NAME, NAME.args and NAME.stdout.
 """
-import glob, os, random, re, subprocess, sys, tempfile
+import glob, os, random, re, subprocess, tempfile
+
+import called_rows
 
 LANES = {"Byte": 1, "Word": 2, "Dword": 4, "Qword": 8}
 BYTES = {"Xmm": 16, "Ymm": 32}
@@ -290,39 +292,13 @@ def by_processor(calls):
         return subprocess.run([path[:-2]], check=True, capture_output=True, text=True).stdout.split()
 
 
-def compare(program_path, calls, values):
-    differences = 0
-    for (name, call, size), value in zip(calls, values):
-        source, arguments, told = unit(name, call, size, value)
-        answer = subprocess.run([program_path] + arguments, input=source, capture_output=True, text=True)
-        if answer.stdout != told:
-            differences += 1
-            print(source.splitlines()[2], *call.items, "->", told, "but", answer.stdout or answer.stderr)
-    return differences
-
-
 def main():
     top = os.path.dirname(os.path.dirname(os.path.abspath(__file__)))
     rows = {name: form for name, form in all_rows(top).items() if name != "_mm_cmpgt_epi64"}
     calls, formulas = all_calls(rows)
     values = by_processor(calls)
-    told = "rows %d, formulas %d, calls %d" % (len(rows), formulas, len(values))
-    if sys.argv[1:2] == ["run"]:
-        print("%s, differences %d" % (told, compare(sys.argv[2], calls, values)))
-        return
-    last = ""
-    for number, ((name, call, size), value) in enumerate(zip(calls, values)):
-        source, arguments, output = unit(name, call, size, value)
-        if sys.argv[1:2] == ["cases"]:
-            path = os.path.join(sys.argv[2], "%s_%d" % (name, number))
-            for ending, text in (("", source), (".args", "\n".join(arguments) + "\n"), (".stdout", output)):
-                open(path + ending, "w").write(text)
-            continue
-        if source != last:
-            print(source.splitlines()[2])
-        last = source
-        print(" %s -> %s" % (" ".join(arguments[4:]), output.strip().replace("\n", "$")))
-    print(told, file=sys.stderr)
+    told = [(name,) + unit(name, call, size, value) for (name, call, size), value in zip(calls, values)]
+    called_rows.answer_words("rows %d, formulas %d, calls %d" % (len(rows), formulas, len(values)), told)
 
 
 if __name__ == "__main__":

@@ -6,11 +6,13 @@ It reads the rows and their forms from crates/neon_*/specs/*Rows.antt and writes
 every other row two. Registers have elements at 0, 1, 7F.., 80.., FF.. of their width, counts lie on both sides of the width, and constants go through
 their range.
 
-With no word it prints a table for the tests in crates/cases: the text of a function that calls the row, and behind it, on lines that begin with a
+With no word it prints a table for the tests in crates/top_cases: the text of a function that calls the row, and behind it, on lines that begin with a
 space, the items of a run and what it prints, `$` for a line end but the last. With `run PROGRAM` it runs `PROGRAM run neon` on each, compares, and
 prints rows, calls and differences; with `cases FOLDER` it writes each unit, its words and its output as files NAME, NAME.args and NAME.stdout.
 """
-import glob, os, random, re, shutil, subprocess, sys, tempfile
+import glob, os, random, re, shutil, subprocess, tempfile
+
+import called_rows
 
 COMPILER, EMULATOR = "aarch64-linux-gnu-gcc", "qemu-aarch64"
 WIDTHS = {"8": 1, "16": 2, "32": 4, "64": 8}
@@ -226,17 +228,6 @@ def unit(call, value):
     return source, ["run", "neon", "f", "0"] + blocks + call.items, told + "\n"
 
 
-def compare(path, calls, values):
-    differences = 0
-    for call, value in zip(calls, values):
-        source, arguments, told = unit(call, value)
-        answer = subprocess.run([path] + arguments, input=source, capture_output=True, text=True)
-        if answer.stdout != told:
-            differences += 1
-            print(source.splitlines()[2], *call.items, "->", told, "but", answer.stdout or answer.stderr)
-    return differences
-
-
 def main():
     missing = [tool for tool in (COMPILER, EMULATOR) if not shutil.which(tool)]
     if missing:
@@ -245,23 +236,8 @@ def main():
     rows = all_rows(os.path.dirname(os.path.dirname(os.path.abspath(__file__))))
     calls, formulas = all_calls(rows)
     values = by_neon(calls)
-    told = "rows %d, formulas %d, calls %d" % (len(rows), formulas, len(values))
-    if sys.argv[1:2] == ["run"]:
-        print("%s, differences %d" % (told, compare(sys.argv[2], calls, values)))
-        return
-    last = ""
-    for number, (call, value) in enumerate(zip(calls, values)):
-        source, arguments, output = unit(call, value)
-        if sys.argv[1:2] == ["cases"]:
-            path = os.path.join(sys.argv[2], "%s_%d" % (call.name, number))
-            for ending, text in (("", source), (".args", "\n".join(arguments) + "\n"), (".stdout", output)):
-                open(path + ending, "w").write(text)
-            continue
-        if source != last:
-            print(source.splitlines()[2])
-        last = source
-        print(" %s -> %s" % (" ".join(arguments[4:]), output.strip().replace("\n", "$")))
-    print(told, file=sys.stderr)
+    told = [(call.name,) + unit(call, value) for call, value in zip(calls, values)]
+    called_rows.answer_words("rows %d, formulas %d, calls %d" % (len(rows), formulas, len(values)), told)
 
 
 if __name__ == "__main__":

@@ -6,7 +6,7 @@ ghost use Rattle.c_directives.specs.Headers.{headers, spelled, up_to_mark, in_ma
 ghost use Rattle.c_directives.specs.Answers.{Refusing};
 
 use c_macros::is_mark;
-use c_text::{Dialect, Fail, Token, TokenKind, refuse, refuse_token};
+use c_text::{Dialect, Fail, Token, TokenKind, is_among, refuse, refuse_token};
 use std::alloc::{AllocError, Global};
 
 const BAD_DIRECTIVE: u8 = 5;
@@ -34,12 +34,6 @@ static NEON: [&[u8]; 5] = [
     b"<stddef.h>",
     b"<stdint.h>",
 ];
-
-fn is_among(name: &[u8], names: &[&[u8]]) -> bool
-    ensures { result ≡ list_any (λ n. bytes_eq name.now n.now) names.now }
-{
-    names.iter().any(|n| name == *n)
-}
 
 fn is_header(dialect: Dialect, name: &[u8]) -> bool
     ensures { result ≡ list_any (bytes_eq name.now) (headers dialect) }

@@ -7,7 +7,8 @@ use Rattle.c_tree.specs.declared.statements.Stmt.{Stmt}
 use Rattle.c_tree.specs.View.{view, views, view_declared, view_stmt, view_stmts}
 use Rattle.c_memory.specs.declared.value.Value.{Value}
 use Rattle.c_memory.specs.MeaningState.{State, Out, Done, Turns, Undefined, Does, then_do, pure, spend, ◌>>=◌, ◌>>◌}
-use Rattle.c_memory.specs.Meaning.{Calls, begin_object, initialised, is_array, choose, expression, its_value, values, on_loop, loops, loops_after, then_step, with_step}
+use Rattle.c_tree.specs.Types.{is_array}
+use Rattle.c_memory.specs.Meaning.{Calls, begin_object, initialised, choose, expression, its_value, values, on_loop, loops, loops_after, then_step, with_step}
 use Rattle.c_memory.specs.Meaning as meaning
 use Rattle.c_meaning.specs.declared.calls.Flow.{Flow}
 use Rattle.c_meaning.specs.declared.calls.Flow.TheVariants.{Next, Continued}

@@ -6,7 +6,8 @@ use Rattle.c_tree.specs.Tree.{Object, Statement, Statements, Optional, Declare, 
 use Rattle.address_taken.specs.Taken.{TakenTrees, Objects, Parts, NoParts, Part, FunctionTaken}
 use Rattle.c_memory.specs.declared.value.Value.{Value}
 use Rattle.c_memory.specs.MeaningState.{Binding, Does, ◌>>=◌, ◌>>◌, pure, undefined, object_of, then_do, scoped}
-use Rattle.c_memory.specs.Meaning.{Calls, Next, Broke, Continued, choose, condition, expression, is_array, begin_object, initialised, first_value, on_next, loops, loops_after, with_step, Acts, optional_condition, optional_value, returned, result, back_to, spend_for}
+use Rattle.c_tree.specs.Types.{is_array}
+use Rattle.c_memory.specs.Meaning.{Calls, Next, Broke, Continued, choose, condition, expression, begin_object, initialised, first_value, on_next, loops, loops_after, with_step, Acts, optional_condition, optional_value, returned, result, back_to, spend_for}
 
 -- of statements in a row, the truth values of the first one's declarators
 abbrev pub flags_of : TakenTrees → List Bool

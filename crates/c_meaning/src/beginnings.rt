@@ -2,7 +2,8 @@
 
 ghost use Rattle.std.specs.Prelude.{◌≡◌, ◌||◌, None, map};
 ghost use Rattle.c_tree.specs.View.{view_declared};
-ghost use Rattle.c_memory.specs.Meaning.{Calls, begin_object, first_value, initialised, is_array};
+ghost use Rattle.c_tree.specs.Types.{is_array};
+ghost use Rattle.c_memory.specs.Meaning.{Calls, begin_object, first_value, initialised};
 ghost use Rattle.c_memory.specs.Meaning as meaning;
 ghost use Rattle.c_memory.specs.MeaningObjects.{is_const};
 ghost use Rattle.c_meaning.specs.Seen.{seen_binding};
@@ -16,19 +17,9 @@ use crate::flags::{first_flag, other_flags};
 use crate::objects::{Binding, Location};
 use crate::state::{State, Stop};
 use c_memory::Value;
-use c_tree::{CType, Declared};
+use c_tree::{CType, Declared, is_array};
 use c_values::objects::{fill_list, fill_value, object_block};
 use std::alloc::Global;
-
-/// Whether the type is an array's.
-fn is_array(ty: CType) -> bool
-    ensures { result ≡ is_array ty }
-{
-    match ty {
-        CType::Array(_, _, _) => true,
-        _ => false,
-    }
-}
 
 /// Whether an object is a block: an array, or one whose address is taken.
 pub fn is_block(ty: CType, taken: bool) -> bool

@@ -10,8 +10,9 @@ use Rattle.c_text.specs.declared.tokens.TokenKind.TheVariants as kinds
 use Rattle.lane_core.specs.declared.number.BinOp.{BinOp}
 use Rattle.lane_core.specs.declared.number.BinOp.TheVariants.{Mul, Div, Rem, Add, Sub, Shl, Shr, Lt, Gt, Le, Ge, Eq, Ne, BitAnd, BitXor, BitOr}
 use Rattle.lane_core.specs.declared.number.IntType.TheVariants as ints
-use Rattle.lane_core.specs.declared.vector.NeonLane.TheVariants.{U8, U16, U32, U64, S8, S16, S32, S64}
+use Rattle.c_tree.specs.declared.types.CType.{CType}
 use Rattle.c_tree.specs.declared.types.CType.TheVariants as ctypes
+use Rattle.c_tree.specs.Vectors.{vectors}
 use Rattle.c_parse.specs.declared.symbols.Infix.{Infix}
 use Rattle.c_parse.specs.declared.symbols.Infix.TheVariants.{Operator, AndThen, OrElse}
 use Rattle.c_parse.specs.declared.symbols.Sign.TheVariants.{Open, Close, OpenSquare, CloseSquare, Comma, Question, Colon, SizeOf, Dot, OpenBrace, CloseBrace, Semicolon}
@@ -77,36 +78,9 @@ type_words =
     (codes "size_t", symbols.Type (words.Whole (ctypes.Int ints.ULong))) ∷
     (codes "ptrdiff_t", symbols.Type (words.Whole (ctypes.Int ints.Long))) ∷ []
 
--- the vector types of Intel's intrinsics
-abbrev pub x86_vectors : List (List ℕ × Symbol)
-x86_vectors =
-    (codes "__m128i", symbols.Type (words.Whole ctypes.M128)) ∷
-    (codes "__m256i", symbols.Type (words.Whole ctypes.M256)) ∷ []
-
--- the vector types of Arm's Neon intrinsics
-abbrev pub neon_vectors : List (List ℕ × Symbol)
-neon_vectors =
-    (codes "uint8x8_t", symbols.Type (words.Whole (ctypes.Neon U8 false))) ∷
-    (codes "uint16x4_t", symbols.Type (words.Whole (ctypes.Neon U16 false))) ∷
-    (codes "uint32x2_t", symbols.Type (words.Whole (ctypes.Neon U32 false))) ∷
-    (codes "uint64x1_t", symbols.Type (words.Whole (ctypes.Neon U64 false))) ∷
-    (codes "int8x8_t", symbols.Type (words.Whole (ctypes.Neon S8 false))) ∷
-    (codes "int16x4_t", symbols.Type (words.Whole (ctypes.Neon S16 false))) ∷
-    (codes "int32x2_t", symbols.Type (words.Whole (ctypes.Neon S32 false))) ∷
-    (codes "int64x1_t", symbols.Type (words.Whole (ctypes.Neon S64 false))) ∷
-    (codes "uint8x16_t", symbols.Type (words.Whole (ctypes.Neon U8 true))) ∷
-    (codes "uint16x8_t", symbols.Type (words.Whole (ctypes.Neon U16 true))) ∷
-    (codes "uint32x4_t", symbols.Type (words.Whole (ctypes.Neon U32 true))) ∷
-    (codes "uint64x2_t", symbols.Type (words.Whole (ctypes.Neon U64 true))) ∷
-    (codes "int8x16_t", symbols.Type (words.Whole (ctypes.Neon S8 true))) ∷
-    (codes "int16x8_t", symbols.Type (words.Whole (ctypes.Neon S16 true))) ∷
-    (codes "int32x4_t", symbols.Type (words.Whole (ctypes.Neon S32 true))) ∷
-    (codes "int64x2_t", symbols.Type (words.Whole (ctypes.Neon S64 true))) ∷
-    (codes "uint8x16x2_t", symbols.Type (words.Whole ctypes.Pair)) ∷ []
-
-abbrev pub vectors : Dialect → List (List ℕ × Symbol)
-vectors X86 = x86_vectors
-vectors Neon = neon_vectors
+-- a type by itself, as vector types are (Intel's Intrinsics Guide, Arm's Neon reference)
+abbrev pub vector_symbol : CType → Symbol
+vector_symbol t = symbols.Type (words.Whole t)
 
 -- the other words of expressions and types
 abbrev pub other_words : List (List ℕ × Symbol)
@@ -141,7 +115,7 @@ later_keywords =
 abbrev pub name_symbol : Dialect → List ℕ → Symbol
 name_symbol dialect text =
     or_symbol (lookup (bytes_eq text) type_words) (λ s. s)
-    (or_symbol (lookup (bytes_eq text) (vectors dialect)) (λ s. s)
+    (or_symbol (lookup (bytes_eq text) (vectors dialect)) vector_symbol
     (or_symbol (lookup (bytes_eq text) other_words) (λ s. s)
     (or_symbol (lookup (bytes_eq text) statement_words) (λ s. s)
     (if list_any (bytes_eq text) keywords || list_any (bytes_eq text) later_keywords then symbols.Other else symbols.Name))))

@@ -4,8 +4,8 @@ ghost use Rattle.std.specs.Prelude.{◌≡◌, bytes_eq};
 ghost use Rattle.std.specs.List.{list_any};
 ghost use Rattle.c_parse.specs.Objects.{dropped_names, target_names, aligned_names, attribute_named, attribute_of};
 
-use crate::symbols::{Symbol, is_among, token_symbol};
-use c_text::{Dialect, Token};
+use crate::symbols::{Symbol, token_symbol};
+use c_text::{Dialect, Token, is_among};
 
 /// What an attribute's name asks for.
 #[derive(Clone, Copy, Debug, PartialEq, Eq)]

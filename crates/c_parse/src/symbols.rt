@@ -1,12 +1,13 @@
 //! What the grammar sees of a token.
 
-ghost use Rattle.std.specs.Prelude.{◌≡◌, bytes_eq, map};
+ghost use Rattle.std.specs.Prelude.{◌≡◌, bytes_eq, option_map};
 ghost use Rattle.std.specs.Map.{lookup};
 ghost use Rattle.std.specs.List.{list_any};
-ghost use Rattle.c_parse.specs.Symbols.{infix_marks, assignment_marks, other_marks, type_words, x86_vectors, neon_vectors, vectors, other_words, statement_words, keywords, later_keywords, symbol_of, mark_symbol, name_symbol};
+ghost use Rattle.c_tree.specs.Vectors.{vectors};
+ghost use Rattle.c_parse.specs.Symbols.{infix_marks, assignment_marks, other_marks, type_words, vector_symbol, other_words, statement_words, keywords, later_keywords, symbol_of, mark_symbol, name_symbol};
 
-use c_text::{Dialect, Token, TokenKind};
-use c_tree::{BinOp, CType, IntType, NeonLane};
+use c_text::{Dialect, Token, TokenKind, is_among, lookup};
+use c_tree::{BinOp, CType, IntType, vector_named};
 
 /// An operator between two operands that groups to the left (C11 6.5.5 to 6.5.14).
 #[derive(Clone, Copy, Debug, PartialEq, Eq)]
@@ -236,79 +237,6 @@ static TYPE_WORDS: [(&[u8], Symbol); 18] = [
     ),
 ];
 
-static X86_VECTORS: [(&[u8], Symbol); 2] = [
-    (b"__m128i", Symbol::Type(TypeWord::Whole(CType::M128))),
-    (b"__m256i", Symbol::Type(TypeWord::Whole(CType::M256))),
-];
-
-static NEON_VECTORS: [(&[u8], Symbol); 17] = [
-    (
-        b"uint8x8_t",
-        Symbol::Type(TypeWord::Whole(CType::Neon(NeonLane::U8, false))),
-    ),
-    (
-        b"uint16x4_t",
-        Symbol::Type(TypeWord::Whole(CType::Neon(NeonLane::U16, false))),
-    ),
-    (
-        b"uint32x2_t",
-        Symbol::Type(TypeWord::Whole(CType::Neon(NeonLane::U32, false))),
-    ),
-    (
-        b"uint64x1_t",
-        Symbol::Type(TypeWord::Whole(CType::Neon(NeonLane::U64, false))),
-    ),
-    (
-        b"int8x8_t",
-        Symbol::Type(TypeWord::Whole(CType::Neon(NeonLane::S8, false))),
-    ),
-    (
-        b"int16x4_t",
-        Symbol::Type(TypeWord::Whole(CType::Neon(NeonLane::S16, false))),
-    ),
-    (
-        b"int32x2_t",
-        Symbol::Type(TypeWord::Whole(CType::Neon(NeonLane::S32, false))),
-    ),
-    (
-        b"int64x1_t",
-        Symbol::Type(TypeWord::Whole(CType::Neon(NeonLane::S64, false))),
-    ),
-    (
-        b"uint8x16_t",
-        Symbol::Type(TypeWord::Whole(CType::Neon(NeonLane::U8, true))),
-    ),
-    (
-        b"uint16x8_t",
-        Symbol::Type(TypeWord::Whole(CType::Neon(NeonLane::U16, true))),
-    ),
-    (
-        b"uint32x4_t",
-        Symbol::Type(TypeWord::Whole(CType::Neon(NeonLane::U32, true))),
-    ),
-    (
-        b"uint64x2_t",
-        Symbol::Type(TypeWord::Whole(CType::Neon(NeonLane::U64, true))),
-    ),
-    (
-        b"int8x16_t",
-        Symbol::Type(TypeWord::Whole(CType::Neon(NeonLane::S8, true))),
-    ),
-    (
-        b"int16x8_t",
-        Symbol::Type(TypeWord::Whole(CType::Neon(NeonLane::S16, true))),
-    ),
-    (
-        b"int32x4_t",
-        Symbol::Type(TypeWord::Whole(CType::Neon(NeonLane::S32, true))),
-    ),
-    (
-        b"int64x2_t",
-        Symbol::Type(TypeWord::Whole(CType::Neon(NeonLane::S64, true))),
-    ),
-    (b"uint8x16x2_t", Symbol::Type(TypeWord::Whole(CType::Pair))),
-];
-
 static OTHER_WORDS: [(&[u8], Symbol); 5] = [
     (b"sizeof", Symbol::Sign(Sign::SizeOf)),
     (b"const", Symbol::Const),
@@ -362,62 +290,30 @@ static LATER_KEYWORDS: [&[u8]; 13] = [
     b"_Thread_local",
 ];
 
-// The symbol beside a word in a table.
-fn find(text: &[u8], rows: &[(&[u8], Symbol)]) -> Option<Symbol>
-    ensures { result ≡ lookup (bytes_eq text.now) (map (λ r. (r.0.now, r.1)) rows.now) }
-{
-    let mut left = rows;
-    while let [row, rest @ ..] = left {
-        if text == row.0 {
-            return Some(row.1);
-        }
-        left = rest;
-    }
-    None
-}
-
-pub fn is_among(word: &[u8], words: &[&[u8]]) -> bool
-    ensures { result ≡ list_any (λ w. bytes_eq word.now w.now) words.now }
-{
-    words.iter().any(|w| word == *w)
-}
-
 fn type_symbol(text: &[u8]) -> Option<Symbol>
     ensures { result ≡ lookup (bytes_eq text.now) type_words }
 {
-    find(text, &TYPE_WORDS)
-}
-
-fn x86_symbol(text: &[u8]) -> Option<Symbol>
-    ensures { result ≡ lookup (bytes_eq text.now) x86_vectors }
-{
-    find(text, &X86_VECTORS)
-}
-
-fn neon_symbol(text: &[u8]) -> Option<Symbol>
-    ensures { result ≡ lookup (bytes_eq text.now) neon_vectors }
-{
-    find(text, &NEON_VECTORS)
+    lookup(text, &TYPE_WORDS)
 }
 
 fn other_symbol(text: &[u8]) -> Option<Symbol>
     ensures { result ≡ lookup (bytes_eq text.now) other_words }
 {
-    find(text, &OTHER_WORDS)
+    lookup(text, &OTHER_WORDS)
 }
 
 fn statement_symbol(text: &[u8]) -> Option<Symbol>
     ensures { result ≡ lookup (bytes_eq text.now) statement_words }
 {
-    find(text, &STATEMENT_WORDS)
+    lookup(text, &STATEMENT_WORDS)
 }
 
 fn vector_symbol(dialect: Dialect, text: &[u8]) -> Option<Symbol>
-    ensures { result ≡ lookup (bytes_eq text.now) (vectors dialect) }
+    ensures { result ≡ option_map vector_symbol (lookup (bytes_eq text.now) (vectors dialect)) }
 {
-    match dialect {
-        Dialect::X86 => x86_symbol(text),
-        Dialect::Neon => neon_symbol(text),
+    match vector_named(dialect, text) {
+        Some(ty) => Some(Symbol::Type(TypeWord::Whole(ty))),
+        None => None,
     }
 }
 

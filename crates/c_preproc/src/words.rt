@@ -4,7 +4,7 @@ ghost use Rattle.std.specs.Prelude.{◌≡◌, bytes_eq};
 ghost use Rattle.std.specs.List.{list_any};
 ghost use Rattle.c_preproc.specs.ExcludedWord.{excluded_in_both, excluded_vectors, is_excluded};
 
-use c_text::{Dialect, Token, TokenKind};
+use c_text::{Dialect, Token, TokenKind, is_among};
 
 static EXCLUDED_IN_BOTH: [&[u8]; 26] = [
     b"asm",
@@ -38,12 +38,6 @@ static EXCLUDED_IN_BOTH: [&[u8]; 26] = [
 static EXCLUDED_VECTORS: [&[u8]; 6] = [
     b"__m64", b"__m128", b"__m128d", b"__m256", b"__m256d", b"__m512i",
 ];
-
-fn is_among(word: &[u8], words: &[&[u8]]) -> bool
-    ensures { result ≡ list_any (λ w. bytes_eq word.now w.now) words.now }
-{
-    words.iter().any(|w| word == *w)
-}
 
 fn is_in_both(word: &[u8]) -> bool
     ensures { result ≡ list_any (bytes_eq word.now) excluded_in_both }

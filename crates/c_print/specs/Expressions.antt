@@ -7,40 +7,10 @@ use Rattle.lane_core.specs.declared.number.BinOp.TheVariants.{Mul, Div, Rem, Add
 use Rattle.lane_core.specs.declared.number.Num.{Num}
 use Rattle.lane_core.specs.declared.number.UnOp.{UnOp}
 use Rattle.lane_core.specs.declared.number.UnOp.TheVariants.{Plus, Neg, BitNot, Not}
+use Rattle.c_tree.specs.Operators.{operator_text, prefix_text, step_text}
 use Rattle.c_tree.specs.Tree.{Tree, Kind, Trees, Node, Const, Name, Unary, Step, Binary, AndThen, OrElse, Choice, Assign, Comma, Cast, Index, Deref, Address, Call, Half, PairOf, SizeOfType, SizeOfName, Str, NoTrees, More}
 use Rattle.c_print.specs.Types.{type_text}
 use Rattle.c_print.specs.Constants.{constant_text}
-
--- an operator between two operands (C11 6.5.5 to 6.5.12)
-abbrev pub operator_text : BinOp → List ℕ
-operator_text Mul = codes "*"
-operator_text Div = codes "/"
-operator_text Rem = codes "%"
-operator_text Add = codes "+"
-operator_text Sub = codes "-"
-operator_text Shl = codes "<<"
-operator_text Shr = codes ">>"
-operator_text Lt = codes "<"
-operator_text Gt = codes ">"
-operator_text Le = codes "<="
-operator_text Ge = codes ">="
-operator_text Eq = codes "=="
-operator_text Ne = codes "!="
-operator_text BitAnd = codes "&"
-operator_text BitXor = codes "^"
-operator_text BitOr = codes "|"
-
--- an operator before its operand (C11 6.5.3.3)
-abbrev pub prefix_text : UnOp → List ℕ
-prefix_text Plus = codes "+"
-prefix_text Neg = codes "-"
-prefix_text BitNot = codes "~"
-prefix_text Not = codes "!"
-
--- a step upwards or downwards
-abbrev pub step_text : Bool → List ℕ
-step_text true = codes "++"
-step_text false = codes "--"
 
 -- an assignment, which may have an operator in it (C11 6.5.16), with a space on each side
 abbrev pub assignment_text : Option BinOp → List ℕ

@@ -2,56 +2,16 @@
 
 ghost use Rattle.std.specs.Prelude.{◌≡◌, ◌++◌, ◌+◌, ◌<◌, true, codes, OnOk};
 ghost use Rattle.c_tree.specs.View.{view, views};
-ghost use Rattle.c_print.specs.Expressions.{operator_text, prefix_text, step_text, assignment_text, operator_level, constant_level, step_level, level, opening, closing, is_joined, is_wrapped_operand, pair_opening, spaced, text, kind_text, part, operand, list_text};
+ghost use Rattle.c_tree.specs.Operators.{operator_text, prefix_text, step_text};
+ghost use Rattle.c_print.specs.Expressions.{assignment_text, operator_level, constant_level, step_level, level, opening, closing, is_joined, is_wrapped_operand, pair_opening, spaced, text, kind_text, part, operand, list_text};
 ghost use Rattle.c_tree.specs.Tree.{Step, Cast, Call, Half, SizeOfType, SizeOfName};
 
 use crate::constants::write_constant;
 use crate::types::{write_decimal, write_type};
-use c_tree::{BinOp, CType, Expr, ExprKind, Num, Text, UnOp};
+use c_tree::{
+    BinOp, CType, Expr, ExprKind, Num, Text, UnOp, operator_text, prefix_text, step_text,
+};
 use std::alloc::AllocError;
-
-/// An operator between two operands.
-fn operator_text(op: BinOp) -> &'static [u8]
-    ensures { result.now ≡ operator_text op }
-{
-    match op {
-        BinOp::Mul => b"*",
-        BinOp::Div => b"/",
-        BinOp::Rem => b"%",
-        BinOp::Add => b"+",
-        BinOp::Sub => b"-",
-        BinOp::Shl => b"<<",
-        BinOp::Shr => b">>",
-        BinOp::Lt => b"<",
-        BinOp::Gt => b">",
-        BinOp::Le => b"<=",
-        BinOp::Ge => b">=",
-        BinOp::Eq => b"==",
-        BinOp::Ne => b"!=",
-        BinOp::BitAnd => b"&",
-        BinOp::BitXor => b"^",
-        BinOp::BitOr => b"|",
-    }
-}
-
-/// An operator before its operand.
-fn prefix_text(op: UnOp) -> &'static [u8]
-    ensures { result.now ≡ prefix_text op }
-{
-    match op {
-        UnOp::Plus => b"+",
-        UnOp::Neg => b"-",
-        UnOp::BitNot => b"~",
-        UnOp::Not => b"!",
-    }
-}
-
-/// A step upwards or downwards.
-fn step_text(up: bool) -> &'static [u8]
-    ensures { result.now ≡ step_text up }
-{
-    if up { b"++" } else { b"--" }
-}
 
 /// How tight an operator binds.
 fn operator_level(op: BinOp) -> u8

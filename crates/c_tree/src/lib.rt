@@ -4,16 +4,22 @@
 #![tactic(auto)]
 
 mod expressions;
+mod marks;
+mod operators;
 mod same;
 mod statements;
 mod types;
 mod units;
+mod vectors;
 
 pub use c_text::{Place, Text};
 pub use expressions::{Expr, ExprKind, copy_exprs};
 pub use lane_core::number::{BinOp, IntType, Num, UnOp};
 pub use lane_core::vector::{NeonLane, Pointee};
+pub use marks::{fault, mark, name_fault, root};
+pub use operators::{operator_text, prefix_text, step_text};
 pub use same::same_is_an_equivalence;
 pub use statements::{Declared, Stmt, copy_objects, copy_stmts};
-pub use types::CType;
+pub use types::{CType, is_array};
 pub use units::{Function, Item, Unit};
+pub use vectors::vector_named;

@@ -11,13 +11,14 @@ use Rattle.c_tree.specs.declared.types.CType.TheVariants.{Void, Int, M128, M256,
 use Rattle.c_tree.specs.Tree as tree
 use Rattle.c_tree.specs.Tree.{Tree, Kind, Trees, Node, NoTrees, More}
 use Rattle.type_rules.specs.declared.passing.Parameter.{Parameter}
-use Rattle.type_rules.specs.Types.{node_type, converted, decayed, read_type, is_void_pointer}
+use Rattle.c_tree.specs.Nodes.{node_type}
+use Rattle.type_rules.specs.Types.{converted, decayed, read_type, is_void_pointer}
 use Rattle.type_rules.specs.Operations.{result_of, name_node}
 use Rattle.type_rules.specs.Passing.{passed, immediate_of}
 use Rattle.type_rules.specs.Rules.{IsObjectOf, an_integer, a_vector, a_wide_vector, Results, Passed}
 use Rattle.scopes.specs.declared.environment.Object.{Object}
 use Rattle.scopes.specs.Scopes.{Env, Callee, Row, named, object_named}
-use Rattle.expression_types.specs.Marks.{short}
+use Rattle.c_tree.specs.Marks.{short}
 use Rattle.expression_types.specs.Names.{is_unknown_intrinsic, Target}
 use Rattle.expression_types.specs.Objects.{designated, may_write, is_writable, pointee_of, addressed}
 use Rattle.expression_types.specs.Check.{◌>>=◌, refuse, typed, admitted, called, object_called, function_called, row_called, immediate_fits, call, check, check_all}

@@ -1,4 +1,3 @@
 pub mod Complete
 pub mod Lists
-pub mod Shortened
 pub mod Sound

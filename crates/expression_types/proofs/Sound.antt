@@ -15,13 +15,14 @@ use Rattle.c_tree.specs.declared.types.CType.TheVariants.{Void, Int, M128, M256,
 use Rattle.c_tree.specs.Tree as tree
 use Rattle.c_tree.specs.Tree.{Tree, Kind, Trees, Node, NoTrees, More}
 use Rattle.type_rules.specs.declared.passing.Parameter.{Parameter}
-use Rattle.type_rules.specs.Types.{node_type, node_place, converted, decayed, read_type, is_void_pointer}
+use Rattle.c_tree.specs.Nodes.{node_type, node_place}
+use Rattle.type_rules.specs.Types.{converted, decayed, read_type, is_void_pointer}
 use Rattle.type_rules.specs.Operations.{result_of, name_node, step_node, assign_node}
 use Rattle.type_rules.specs.Passing.{passed, immediate_of, is_in_range}
 use Rattle.type_rules.specs.Rules.{IsObjectOf, an_integer, a_vector, a_wide_vector, Results, Passed}
 use Rattle.scopes.specs.declared.environment.Object.{Object}
 use Rattle.scopes.specs.Scopes.{Env, Callee, Row, named, object_named}
-use Rattle.expression_types.specs.Marks.{short, mark}
+use Rattle.c_tree.specs.Marks.{short, mark}
 use Rattle.expression_types.specs.Names.{is_widening, widening, is_unknown_intrinsic, is_function, Target}
 use Rattle.expression_types.specs.Objects.{pointed_const, indexed_const, designated, designated_kind, may_write, is_writable, pointee_of, addressed, address_node}
 use Rattle.expression_types.specs.Check.{◌>>=◌, Checked, refuse, typed, admitted, used, used_as, called, object_called, function_called, row_called, fitting, in_range, immediate_fits, call, check, check_kind, check_all}

@@ -15,12 +15,13 @@ use Rattle.scalar_core.specs.Numbers as numbers
 use Rattle.const_imm.specs.Constant.{value_of}
 use Rattle.c_tree.specs.Tree as tree
 use Rattle.c_tree.specs.Tree.{Tree, Kind, Trees, Node, NoTrees, More}
-use Rattle.type_rules.specs.Types.{node_place, read_type, is_void_pointer}
+use Rattle.c_tree.specs.Nodes.{node_place}
+use Rattle.type_rules.specs.Types.{read_type, is_void_pointer}
 use Rattle.type_rules.specs.Operations.{constant_node, name_node, unary_node, step_node, binary_node, and_node, or_node, choice_node, assign_node, comma_node, cast_node, index_node, deref_node, half_node, pair_node, size_node, size_of_name_node}
 use Rattle.type_rules.specs.Passing.{passed, immediate_of, is_in_range}
 use Rattle.scopes.specs.declared.environment.Object.{Object}
 use Rattle.scopes.specs.Scopes.{Env, Callee, Row, named, object_named}
-use Rattle.expression_types.specs.Marks.{short, mark_of, mark}
+use Rattle.c_tree.specs.Marks.{short, mark_of, mark}
 use Rattle.expression_types.specs.Names.{is_widening, widening, is_unknown_intrinsic, is_function, Target}
 use Rattle.expression_types.specs.Objects.{is_writable, address_node}
 

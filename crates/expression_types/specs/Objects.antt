@@ -7,7 +7,7 @@ use Rattle.c_tree.specs.declared.types.CType.{CType}
 use Rattle.c_tree.specs.declared.types.CType.TheVariants.{Int, M128, M256, Pointer}
 use Rattle.c_tree.specs.Tree as tree
 use Rattle.c_tree.specs.Tree.{Tree, Kind, Node}
-use Rattle.type_rules.specs.Types.{node_type}
+use Rattle.c_tree.specs.Nodes.{node_type}
 use Rattle.scopes.specs.Scopes.{Env, object_named}
 
 -- whether what a pointer points to is const, where it is one

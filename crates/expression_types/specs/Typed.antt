@@ -16,7 +16,8 @@ use Rattle.c_tree.specs.declared.types.CType.{CType}
 use Rattle.c_tree.specs.declared.types.CType.TheVariants.{Int, Pointer, Array}
 use Rattle.c_tree.specs.Tree as tree
 use Rattle.c_tree.specs.Tree.{Tree, Kind, Trees, Node, NoTrees, More}
-use Rattle.type_rules.specs.Types.{node_type, read_type}
+use Rattle.c_tree.specs.Nodes.{node_type}
+use Rattle.type_rules.specs.Types.{read_type}
 use Rattle.type_rules.specs.Passing.{immediate_of, is_in_range}
 use Rattle.type_rules.specs.Rules.{HasInteger, HasPointer, IsObjectOf, Results, Passed}
 use Rattle.scopes.specs.declared.environment.Object.{Object}

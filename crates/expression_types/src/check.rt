@@ -5,15 +5,14 @@ ghost use Rattle.c_tree.specs.View.{view, view_kind, views};
 ghost use Rattle.const_imm.specs.Constant.{value_of};
 ghost use Rattle.scopes.specs.Scopes.{env_of};
 ghost use Rattle.type_rules.specs.Passing.{immediate_of};
-ghost use Rattle.expression_types.specs.Marks.{mark_of};
+ghost use Rattle.c_tree.specs.Marks.{mark_of};
 ghost use Rattle.expression_types.specs.Names.{target_of};
 ghost use Rattle.expression_types.specs.Check.{Gives, typed, admitted, is_char, read_number, in_range, immediate_fits, call, one, two, check, check_kind, check_all};
 
-use crate::marks::{fault, name_fault};
 use crate::names::{Target, called, used};
 use crate::objects::{address, is_writable};
 use c_text::{Dialect, Fail, Place, Text};
-use c_tree::{Expr, ExprKind, IntType, Num};
+use c_tree::{Expr, ExprKind, IntType, Num, fault, name_fault};
 use const_imm::eval_const;
 use scalar_core::convert;
 use scopes::Environment;

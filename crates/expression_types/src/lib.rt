@@ -3,7 +3,6 @@
 
 mod check;
 mod laws;
-mod marks;
 mod names;
 mod objects;
 
@@ -11,5 +10,4 @@ pub use c_text::{Dialect, Fail, Refusal};
 pub use c_tree::{CType, Expr, ExprKind, Place, Text};
 pub use check::check_expression;
 pub use laws::expressions_are_typed_by_rules;
-pub use marks::{fault, name_fault};
 pub use scopes::{Callee, Environment, Names, Object};

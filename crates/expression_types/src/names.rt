@@ -6,9 +6,8 @@ ghost use Rattle.scopes.specs.Scopes.{env_of, named};
 ghost use Rattle.expression_types.specs.Names.{target_of, is_widening, widening, is_unknown_intrinsic, is_function};
 ghost use Rattle.expression_types.specs.Check.{Gives, used, called, function_called, row_called};
 
-use crate::marks::name_fault;
 use c_text::{Dialect, Fail, Place, Text};
-use c_tree::CType;
+use c_tree::{CType, name_fault};
 use scopes::{Environment, Object};
 use std::alloc::{AllocError, Global};
 use type_rules::{Heading, ImmRange, Parameter};

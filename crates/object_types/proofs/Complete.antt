@@ -7,7 +7,8 @@ use Rattle.lane_core.specs.declared.vector.Pointee.TheVariants as target
 use Rattle.c_tree.specs.declared.types.CType.{CType}
 use Rattle.c_tree.specs.declared.types.CType.TheVariants.{Int, Array}
 use Rattle.c_tree.specs.Tree.{Tree, Trees, NoTrees, More, Object}
-use Rattle.type_rules.specs.Types.{node_type, read_type, is_integer, is_zero, converted, assigned, is_assignable}
+use Rattle.c_tree.specs.Nodes.{node_type}
+use Rattle.type_rules.specs.Types.{read_type, is_integer, is_zero, converted, assigned, is_assignable}
 use Rattle.type_rules.specs.Rules.{Assigned}
 use Rattle.scopes.specs.Scopes.{Env}
 use Rattle.expression_types.specs.Check.{◌>>=◌, Checked, check}

@@ -11,10 +11,11 @@ use Rattle.const_imm.specs.Sizes.{size_of}
 use Rattle.c_tree.specs.declared.types.CType.{CType}
 use Rattle.c_tree.specs.declared.types.CType.TheVariants.{Void, Int, Array}
 use Rattle.c_tree.specs.Tree.{Tree, Trees, NoTrees, More, Object}
-use Rattle.type_rules.specs.Types.{node_type, read_type, is_integer, is_zero, is_void_pointer, converted, assigned, is_assignable}
+use Rattle.c_tree.specs.Nodes.{node_type}
+use Rattle.type_rules.specs.Types.{read_type, is_integer, is_zero, is_void_pointer, converted, assigned, is_assignable}
 use Rattle.type_rules.specs.Rules.{Assigned}
 use Rattle.scopes.specs.Scopes.{Env, named, is_declared_here}
-use Rattle.expression_types.specs.Marks.{short}
+use Rattle.c_tree.specs.Marks.{short}
 use Rattle.expression_types.specs.Check.{◌>>=◌, Checked, refuse, check}
 use Rattle.expression_types.specs.Typed.{Typed}
 use Rattle.object_types.specs.Reserved.{is_reserved}

@@ -9,11 +9,13 @@ use Rattle.const_imm.specs.Sizes.{size_of}
 use Rattle.c_tree.specs.declared.types.CType.{CType}
 use Rattle.c_tree.specs.declared.types.CType.TheVariants.{Void, Array}
 use Rattle.c_tree.specs.Tree.{Tree, Kind, Trees, Node, Cast, NoTrees, More, Object}
-use Rattle.type_rules.specs.Types.{node_type, node_place, read_type, is_void_pointer, is_object, is_integer, converted, assigned}
+use Rattle.c_tree.specs.Nodes.{node_type, node_place, root}
+use Rattle.c_tree.specs.Types.{is_array}
+use Rattle.type_rules.specs.Types.{read_type, is_void_pointer, is_object, is_integer, converted, assigned}
 use Rattle.scopes.specs.declared.environment.Object.{Object as Known}
 use Rattle.c_tree.specs.Same.{unnumbered}
 use Rattle.scopes.specs.Scopes.{Env, with_object, opened, is_declared_here}
-use Rattle.expression_types.specs.Marks.{short, mark}
+use Rattle.c_tree.specs.Marks.{short, mark}
 use Rattle.expression_types.specs.Check.{◌>>=◌, Checked, refuse, check}
 use Rattle.object_types.specs.Reserved.{is_reserved}
 use Rattle.object_types.specs.declared.objects.Start.{Start as CodeStart}
@@ -26,10 +28,6 @@ is_object_type Void = false
 is_object_type (Array e n c) = is_object e
 is_object_type t = true
 
-abbrev pub is_array : CType → Bool
-is_array (Array e n c) = true
-is_array t = false
-
 -- a name that is declared: it isn't reserved (12), the scope doesn't have it (11), its type is an object's (11) and no pointer to void (18)
 abbrev pub new_name : List ℕ → Place → CType → Env → Checked Bool
 new_name x p t env =
@@ -38,15 +36,6 @@ new_name x p t env =
     else if not (is_object_type t) then refuse 11 p (short x)
     else if is_void_pointer t then refuse 18 p (short x)
     else Ok true
-
--- the node that a refusal shows of an expression which has its types: a cast that isn't written is no node of the text
-abbrev mutual
-  pub root : Tree → Tree
-  root (Node p t k) = root_kind p t k
-
-  pub root_kind : Place → CType → Kind → Tree
-  root_kind p t (Cast u a false) = root a
-  root_kind p t k = Node p t k
 
 -- an expression that doesn't fit where it stands
 abbrev pub unfit : {A : Type 0} → Tree → Checked A

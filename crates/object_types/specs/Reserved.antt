@@ -1,19 +1,16 @@
 -- The names that a unit may not declare. Those of the x86 dialect are this project's: migrated units use them.
-use Rattle.std.specs.Prelude.{ℕ, Bool, ◌||◌, List, [], ◌∷◌, nat_eq, codes}
+use Rattle.std.specs.Prelude.{ℕ, Bool, ◌||◌, List, nat_eq, bytes_eq, is_some, codes}
 use Rattle.std.specs.List.{starts_with, list_any}
 use Rattle.c_text.specs.declared.tokens.Dialect.{Dialect}
 use Rattle.c_text.specs.declared.tokens.Dialect.TheVariants.{X86, Neon}
+use Rattle.std.specs.Map.{lookup}
 use Rattle.c_text.specs.PredefinedNames.{predefined_names}
+use Rattle.c_tree.specs.Vectors.{neon_vectors}
 use Rattle.scopes.specs.Scopes.{same_name}
 
--- the types of Arm's vectors
-abbrev pub vector_types : List (List ℕ)
-vector_types =
-    codes "uint8x8_t" ∷ codes "uint16x4_t" ∷ codes "uint32x2_t" ∷ codes "uint64x1_t" ∷ codes "uint8x16_t" ∷ codes "uint16x8_t" ∷ codes "uint32x4_t" ∷ codes "uint64x2_t" ∷
-    codes "int8x8_t" ∷ codes "int16x4_t" ∷ codes "int32x2_t" ∷ codes "int64x1_t" ∷ codes "int8x16_t" ∷ codes "int16x8_t" ∷ codes "int32x4_t" ∷ codes "int64x2_t" ∷ codes "uint8x16x2_t" ∷ []
-
+-- the name of a type of Arm's vectors
 abbrev pub is_vector_type : List ℕ → Bool
-is_vector_type x = list_any (same_name x) vector_types
+is_vector_type x = is_some (lookup (bytes_eq x) neon_vectors)
 
 abbrev pub is_predefined : Dialect → List ℕ → Bool
 is_predefined dialect x = list_any (λ m. same_name x m.name) (predefined_names dialect)

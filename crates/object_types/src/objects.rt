@@ -9,9 +9,9 @@ ghost use Rattle.scopes.specs.Kept.{at_file, OnRefusal};
 ghost use Rattle.expression_types.specs.Check.{Gives};
 ghost use Rattle.object_types.specs.Objects.{is_no_trees, count_all, element_of, number_of, is_open, with_number, known, seen_length, length_of, aligned, seen_start, closed_type, small_once, value_fits, number_for, counted, start, declared_type, behind_name, check_object};
 
-use crate::parts::{alignment, count, is_array, members, new_name, small};
-use c_tree::{CType, Declared, Expr, Place, Pointee, Text};
-use expression_types::{Environment, Fail, Object, check_expression, name_fault};
+use crate::parts::{alignment, count, members, new_name, small};
+use c_tree::{CType, Declared, Expr, Place, Pointee, Text, is_array, name_fault};
+use expression_types::{Environment, Fail, Object, check_expression};
 use scopes::scopes_end;
 use std::alloc::{AllocError, Global};
 use type_rules::{assigned_expr, read_type};

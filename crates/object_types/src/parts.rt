@@ -7,45 +7,16 @@ ghost use Rattle.c_tree.specs.View.{view, views};
 ghost use Rattle.scopes.specs.Scopes.{env_of, is_declared_here};
 ghost use Rattle.expression_types.specs.Check.{Gives};
 ghost use Rattle.c_text.specs.declared.refusals.Fail.TheVariants.{Refused};
-ghost use Rattle.type_rules.specs.Types.{node_place};
-ghost use Rattle.expression_types.specs.Marks.{mark};
-ghost use Rattle.object_types.specs.Objects.{root, is_object_type, is_array, new_name, count_of, is_low_alignment, is_high_alignment, is_alignment, alignment_of, alignment, is_small, small, is_room, is_member, member, members};
+ghost use Rattle.c_tree.specs.Nodes.{node_place, root};
+ghost use Rattle.c_tree.specs.Marks.{mark};
+ghost use Rattle.object_types.specs.Objects.{is_object_type, new_name, count_of, is_low_alignment, is_high_alignment, is_alignment, alignment_of, alignment, is_small, small, is_room, is_member, member, members};
 
 use crate::reserved::is_reserved;
-use c_tree::{CType, Expr, ExprKind, Place, Text};
+use c_tree::{CType, Expr, ExprKind, Place, Text, fault, name_fault, root};
 use const_imm::{eval_const, size_of};
-use expression_types::{Environment, Fail, check_expression, fault, name_fault};
+use expression_types::{Environment, Fail, check_expression};
 use std::alloc::{AllocError, Global};
 use type_rules::{converted_expr, is_integer, is_object, is_void_pointer};
-
-// The node of the text that the expression is.
-fn root(e: &Expr) -> &Expr
-    ensures { view result.now ≡ root (view e.now) }
-{
-    match &*e.kind {
-        ExprKind::Cast(_, a, false) => root(a),
-        ExprKind::Cast(_, _, true)
-        | ExprKind::Const(_)
-        | ExprKind::Name(_)
-        | ExprKind::Unary(_, _)
-        | ExprKind::Step(_, _, _)
-        | ExprKind::Binary(_, _, _)
-        | ExprKind::AndThen(_, _)
-        | ExprKind::OrElse(_, _)
-        | ExprKind::Choice(_, _, _)
-        | ExprKind::Assign(_, _, _)
-        | ExprKind::Comma(_)
-        | ExprKind::Index(_, _)
-        | ExprKind::Deref(_)
-        | ExprKind::Address(_)
-        | ExprKind::Call(_, _)
-        | ExprKind::Half(_, _)
-        | ExprKind::PairOf(_, _)
-        | ExprKind::SizeOfType(_)
-        | ExprKind::SizeOfName(_)
-        | ExprKind::Str(_) => e,
-    }
-}
 
 // The refusal 11 of an expression that doesn't fit where it stands.
 fn unfit(alloc: Global, e: &Expr) -> Result<Fail, AllocError>
@@ -63,16 +34,6 @@ pub fn is_object_type(t: CType) -> bool
         CType::Void => false,
         CType::Array(e, _, _) => is_object(e),
         _ => true,
-    }
-}
-
-/// Whether it is an array type.
-pub fn is_array(t: CType) -> bool
-    ensures { result ≡ is_array t }
-{
-    match t {
-        CType::Array(_, _, _) => true,
-        _ => false,
     }
 }
 

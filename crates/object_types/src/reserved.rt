@@ -3,40 +3,15 @@
 ghost use Rattle.std.specs.Prelude.{◌≡◌, ◌||◌, nat_eq, codes, map};
 ghost use Rattle.std.specs.List.{list_any, starts_with};
 ghost use Rattle.scopes.specs.Scopes.{same_name};
-ghost use Rattle.object_types.specs.Reserved.{vector_types, is_vector_type, is_predefined, is_reserved};
+ghost use Rattle.object_types.specs.Reserved.{is_vector_type, is_predefined, is_reserved};
 
 use c_text::{Dialect, PredefinedName, predefined_names};
-
-static VECTOR_TYPES: [&[u8]; 17] = [
-    b"uint8x8_t",
-    b"uint16x4_t",
-    b"uint32x2_t",
-    b"uint64x1_t",
-    b"uint8x16_t",
-    b"uint16x8_t",
-    b"uint32x4_t",
-    b"uint64x2_t",
-    b"int8x8_t",
-    b"int16x4_t",
-    b"int32x2_t",
-    b"int64x1_t",
-    b"int8x16_t",
-    b"int16x8_t",
-    b"int32x4_t",
-    b"int64x2_t",
-    b"uint8x16x2_t",
-];
-
-fn is_among(name: &[u8], names: &[&[u8]]) -> bool
-    ensures { result ≡ list_any (λ n. same_name name.now n.now) names.now }
-{
-    names.iter().any(|n| name == *n)
-}
+use c_tree::vector_named;
 
 fn is_vector_type(name: &[u8]) -> bool
     ensures { result ≡ is_vector_type name.now }
 {
-    is_among(name, &VECTOR_TYPES)
+    vector_named(Dialect::Neon, name).is_some()
 }
 
 fn is_macro(name: &[u8], all: &[PredefinedName]) -> bool

@@ -8,7 +8,7 @@ use Rattle.c_tree.specs.declared.types.CType.{CType}
 use Rattle.c_tree.specs.Tree as tree
 use Rattle.c_tree.specs.Tree.{Tree, Kind, Trees, Node, NoTrees, More, Definition}
 use Rattle.address_taken.specs.Addressed.{is_name}
-use Rattle.object_types.specs.Objects.{root}
+use Rattle.c_tree.specs.Nodes.{root}
 use Rattle.scopes.specs.Scopes.{or_else}
 use Rattle.order_rule.specs.declared.times.Times.{Times}
 use Rattle.order_rule.specs.declared.times.Times.TheVariants.{Never, Once, Often}

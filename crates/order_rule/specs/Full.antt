@@ -4,8 +4,8 @@ use Rattle.std.specs.List.{list_any}
 use Rattle.c_text.specs.declared.refusals.Refusal.{Refusal}
 use Rattle.c_tree.specs.Tree.{Tree, Object, Statement, Statements, Optional, Declare, Run, Block, If, While, DoWhile, For, Return, Absent, Present, NoStatements, Then, Definition}
 use Rattle.c_tree.specs.View.{view}
-use Rattle.type_rules.specs.Types.{node_place}
-use Rattle.expression_types.specs.Marks.{mark}
+use Rattle.c_tree.specs.Nodes.{node_place}
+use Rattle.c_tree.specs.Marks.{mark}
 use Rattle.scopes.specs.Scopes.{or_else}
 use Rattle.address_taken.specs.Addressed.{takes_statements}
 use Rattle.address_taken.specs.Taken.{TakenTrees, Objects, Parts, NoParts, Part, taken_statements}

@@ -3,7 +3,7 @@ use Rattle.std.specs.Prelude.{◌≡◌, ℕ, Bool, true, false, not, ◌&&◌, 
 use Rattle.c_text.specs.declared.tokens.Place.{Place}
 use Rattle.c_tree.specs.declared.types.CType.{CType}
 use Rattle.c_tree.specs.Tree.{Tree, Kind, Trees, Node, Name, Unary, Step, Binary, AndThen, OrElse, Choice, Assign, Comma, Cast, Index, Deref, Address, Call, Half, PairOf, NoTrees, More}
-use Rattle.object_types.specs.Objects.{root}
+use Rattle.c_tree.specs.Nodes.{root}
 use Rattle.scopes.specs.Scopes.{or_else}
 use Rattle.order_rule.specs.declared.times.Times.{Times}
 use Rattle.order_rule.specs.declared.times.Times.TheVariants.{Never, Once, Often}

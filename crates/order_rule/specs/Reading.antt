@@ -2,7 +2,7 @@
 use Rattle.std.specs.Prelude.{Bool, true, false, not, ◌&&◌, ◌||◌, Some, None}
 use Rattle.c_tree.specs.declared.types.CType.{CType}
 use Rattle.c_tree.specs.Tree.{Tree, Kind, Trees, Node, Name, Unary, Step, Binary, AndThen, OrElse, Choice, Assign, Comma, Cast, Index, Deref, Address, Call, Half, PairOf, NoTrees, More}
-use Rattle.object_types.specs.Objects.{is_array}
+use Rattle.c_tree.specs.Types.{is_array}
 use Rattle.order_rule.specs.Callees.{Callees, called}
 use Rattle.order_rule.specs.Memory.{Env, is_taken}
 use Rattle.order_rule.specs.Writing.{in_memory}

@@ -2,7 +2,7 @@
 use Rattle.std.specs.Prelude.{ℕ, Bool, true, false, ◌||◌, List, bytes_eq}
 use Rattle.c_tree.specs.Tree.{Tree, Kind, Trees, Node, Name, Unary, Step, Binary, AndThen, OrElse, Choice, Assign, Comma, Cast, Index, Deref, Address, Call, Half, PairOf, SizeOfName, NoTrees, More}
 use Rattle.address_taken.specs.Addressed.{is_name}
-use Rattle.object_types.specs.Objects.{root}
+use Rattle.c_tree.specs.Nodes.{root}
 use Rattle.order_rule.specs.declared.times.Times.{Times}
 use Rattle.order_rule.specs.declared.times.Times.TheVariants.{Never, Once, Often}
 use Rattle.order_rule.specs.Callees.{Callees, called}

@@ -2,7 +2,7 @@
 
 ghost use Rattle.std.specs.Prelude.{◌≡◌, IfOk, option_map};
 ghost use Rattle.c_tree.specs.View.{view, view_kind, views};
-ghost use Rattle.object_types.specs.Objects.{root};
+ghost use Rattle.c_tree.specs.Nodes.{root};
 ghost use Rattle.order_rule.specs.Callees.{callees_of};
 ghost use Rattle.order_rule.specs.Memory.{env_of};
 ghost use Rattle.order_rule.specs.Counting.{IsCounted};
@@ -13,8 +13,8 @@ use crate::counting::{Counts, counts_of};
 use crate::memory::Memory;
 use crate::reading::reads;
 use crate::times::Times;
-use crate::writing::{changes, in_memory, is_target, root, writers};
-use c_tree::{Expr, ExprKind};
+use crate::writing::{changes, in_memory, is_target, writers};
+use c_tree::{Expr, ExprKind, root};
 use std::alloc::{AllocError, Global};
 
 /// Whether the expression is an assignment to that variable, whose right side neither steps nor assigns it.

@@ -2,7 +2,7 @@
 
 ghost use Rattle.std.specs.Prelude.{◌≡◌};
 ghost use Rattle.c_tree.specs.View.{view, view_kind, views};
-ghost use Rattle.object_types.specs.Objects.{is_array};
+ghost use Rattle.c_tree.specs.Types.{is_array};
 ghost use Rattle.order_rule.specs.Callees.{callees_of};
 ghost use Rattle.order_rule.specs.Memory.{env_of};
 ghost use Rattle.order_rule.specs.Reading.{reads, reads_in, reads_in_all, reaches, reaches_by};
@@ -10,16 +10,7 @@ ghost use Rattle.order_rule.specs.Reading.{reads, reads_in, reads_in_all, reache
 use crate::callees::{Callees, called};
 use crate::memory::Memory;
 use crate::writing::in_memory;
-use c_tree::{CType, Expr, ExprKind};
-
-fn is_array(t: CType) -> bool
-    ensures { result ≡ is_array t }
-{
-    match t {
-        CType::Array(_, _, _) => true,
-        _ => false,
-    }
-}
+use c_tree::{CType, Expr, ExprKind, is_array};
 
 /// Whether the expression reads memory; with `outside` only what lies outside writers and their operands counts.
 #[cycle(reads)]

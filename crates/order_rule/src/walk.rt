@@ -17,8 +17,7 @@ use crate::times::Times;
 use crate::writing::writers;
 use address_taken::{Taken, taken_and_outside};
 use c_text::Fail;
-use c_tree::{Declared, Expr, Function, Stmt};
-use expression_types::fault;
+use c_tree::{Declared, Expr, Function, Stmt, fault};
 use std::alloc::{AllocError, Global};
 
 /// What is known of the objects that the first of the statements declares.

@@ -3,7 +3,7 @@
 ghost use Rattle.std.specs.Prelude.{◌≡◌};
 ghost use Rattle.c_tree.specs.View.{view, view_kind, views};
 ghost use Rattle.address_taken.specs.Addressed.{is_name};
-ghost use Rattle.object_types.specs.Objects.{root};
+ghost use Rattle.c_tree.specs.Nodes.{root};
 ghost use Rattle.order_rule.specs.Callees.{callees_of};
 ghost use Rattle.order_rule.specs.Memory.{env_of};
 ghost use Rattle.order_rule.specs.Writing.{is_target, changes, changes_in, changes_in_all, in_memory, in_memory_by, writers, writers_in, writers_in_all};
@@ -11,17 +11,7 @@ ghost use Rattle.order_rule.specs.Writing.{is_target, changes, changes_in, chang
 use crate::callees::{Callees, called};
 use crate::memory::Memory;
 use crate::times::{Times, once_if, sum};
-use c_tree::{Expr, ExprKind};
-
-/// The expression below the casts that aren't written.
-pub fn root(e: &Expr) -> &Expr
-    ensures { view result.now ≡ root (view e.now) }
-{
-    match &*e.kind {
-        ExprKind::Cast(_, a, false) => root(a),
-        _ => e,
-    }
-}
+use c_tree::{Expr, ExprKind, root};
 
 /// Whether the object that is stepped or assigned is the variable of this name.
 pub fn is_target(name: &[u8], a: &Expr) -> bool

@@ -17,7 +17,7 @@ pub struct Maker {
     items: Vec<Item>,
 }
 
-pub fn nothing_made(alloc: Global) -> Maker {
+pub(crate) fn nothing_made(alloc: Global) -> Maker {
     Maker {
         alloc,
         exprs: Vec::new(alloc),
@@ -280,12 +280,12 @@ impl Maker {
     }
 
     /// The items that were made.
-    pub fn into_items(self) -> Vec<Item> {
+    pub(crate) fn into_items(self) -> Vec<Item> {
         self.items
     }
 
     /// One word more.
-    pub fn take(&mut self, word: &str) -> Result<(), Fail> {
+    pub(crate) fn take(&mut self, word: &str) -> Result<(), Fail> {
         let (first, what) = match word.split_once(':') {
             Some(parts) => parts,
             None => (word, ""),

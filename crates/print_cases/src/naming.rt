@@ -60,7 +60,7 @@ fn plain_named(name: &str) -> Option<CType> {
 }
 
 // A type: `int`, `int*`, `const-int*`, `int[]`, `const-int[]`, `wide-u8` and `half-u8` of 128 and 64 bits.
-pub fn type_named(word: &str) -> Option<CType> {
+pub(crate) fn type_named(word: &str) -> Option<CType> {
     let (name, constant) = match word.strip_prefix("const-") {
         Some(name) => (name, true),
         None => (word, false),
@@ -113,14 +113,14 @@ fn signed_number(text: &str) -> Option<Num> {
 }
 
 // A number, with its type's suffix in small letters.
-pub fn number(text: &str) -> Option<Num> {
+pub(crate) fn number(text: &str) -> Option<Num> {
     match unsigned_number(text) {
         Some(n) => Some(n),
         None => signed_number(text),
     }
 }
 
-pub fn prefix_named(word: &str) -> Option<UnOp> {
+pub(crate) fn prefix_named(word: &str) -> Option<UnOp> {
     match word {
         "pre+" => Some(UnOp::Plus),
         "pre-" => Some(UnOp::Neg),
@@ -131,7 +131,7 @@ pub fn prefix_named(word: &str) -> Option<UnOp> {
 }
 
 // A step: whether it goes up, and whether it stands before its operand.
-pub fn step_named(word: &str) -> Option<(bool, bool)> {
+pub(crate) fn step_named(word: &str) -> Option<(bool, bool)> {
     match word {
         "pre++" => Some((true, true)),
         "pre--" => Some((false, true)),
@@ -141,7 +141,7 @@ pub fn step_named(word: &str) -> Option<(bool, bool)> {
     }
 }
 
-pub fn operator_named(word: &str) -> Option<BinOp> {
+pub(crate) fn operator_named(word: &str) -> Option<BinOp> {
     match word {
         "*" => Some(BinOp::Mul),
         "/" => Some(BinOp::Div),

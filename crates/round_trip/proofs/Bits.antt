@@ -17,7 +17,8 @@ use Rattle.c_tree.specs.Tree as trees
 use Rattle.c_tree.specs.Tree.{Tree, Kind, Trees, Node, NoTrees, More}
 use Rattle.c_print.specs.Types.{integer_text, vector_text, pointee_text, base_text, const_text, is_base_const, behind_base, type_text}
 use Rattle.c_print.specs.Constants.{constant_text, sign_text, magnitude_text}
-use Rattle.c_print.specs.Expressions.{operator_text, prefix_text, step_text, assignment_text, operator_level, kind_level, opening, closing, is_wrapped_operand, spaced, text, part, operand, kind_text, list_text, more_text, pair_opening}
+use Rattle.c_tree.specs.Operators.{operator_text, prefix_text, step_text}
+use Rattle.c_print.specs.Expressions.{assignment_text, operator_level, kind_level, opening, closing, is_wrapped_operand, spaced, text, part, operand, kind_text, list_text, more_text, pair_opening}
 use Rattle.round_trip.specs.Words.{Bit, bits_text}
 
 -- a word in front of others

@@ -27,7 +27,8 @@ use Rattle.c_tree.specs.Tree as trees
 use Rattle.c_tree.specs.Tree.{Tree, Kind, Trees, Node, NoTrees, More}
 use Rattle.c_print.specs.Types.{vector_text}
 use Rattle.c_print.specs.Constants.{magnitude_text}
-use Rattle.c_print.specs.Expressions.{operator_text, prefix_text, step_text, operator_level, constant_level, kind_level, level, is_wrapped_operand}
+use Rattle.c_tree.specs.Operators.{operator_text, prefix_text, step_text}
+use Rattle.c_print.specs.Expressions.{operator_level, constant_level, kind_level, level, is_wrapped_operand}
 use Rattle.round_trip.specs.Words.{Bit, CutsBack, ends_name, ends_number, ends_mark, ends_pair, goes_on_name, goes_on_mark, last_of}
 use Rattle.round_trip.specs.Good.{GoodConstant, GoodType, GoodAssignment, Good, GoodKind, GoodAll}
 use Rattle.round_trip.proofs.Bits.{name, number, mark, space, comma, written, integer_bits, pointee_bits, base_bits, const_bits, type_bits, constant_bits, opening_bits, closing_bits, spaced_bits, assignment_mark, expression_bits, part_bits, operand_bits, kind_bits, list_bits, more_bits}

@@ -15,7 +15,8 @@ use Rattle.lane_core.specs.declared.number.UnOp.TheVariants as signs
 use Rattle.c_tree.specs.Same.{stripped, stripped_kind, stripped_all, bare, unnumbered}
 use Rattle.c_tree.specs.Tree as trees
 use Rattle.c_tree.specs.Tree.{Tree, Kind, Trees, Node, NoTrees, More}
-use Rattle.c_print.specs.Expressions.{operator_text, prefix_text, step_text, operator_level, constant_level, kind_level, level, is_wrapped_operand}
+use Rattle.c_tree.specs.Operators.{operator_text, prefix_text, step_text}
+use Rattle.c_print.specs.Expressions.{operator_level, constant_level, kind_level, level, is_wrapped_operand}
 use Rattle.c_print.specs.Constants.{magnitude_text}
 use Rattle.c_parse.specs.declared.symbols.Infix.{Infix}
 use Rattle.c_parse.specs.declared.symbols.Infix.TheVariants as infixes

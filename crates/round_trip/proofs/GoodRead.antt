@@ -24,7 +24,8 @@ use Rattle.c_parse.specs.declared.symbols.Symbol.TheVariants as symbols
 use Rattle.c_parse.specs.declared.symbols.TypeWord.{TypeWord}
 use Rattle.c_parse.specs.declared.symbols.TypeWord.TheVariants as words
 use Rattle.c_parse.specs.declared.types.Specifiers.{Specifiers}
-use Rattle.c_parse.specs.Symbols.{infix_marks, assignment_marks, other_marks, or_symbol, mark_symbol, type_words, neon_vectors, other_words, statement_words, keywords, later_keywords, name_symbol, symbol_in, symbol_of}
+use Rattle.c_tree.specs.Vectors.{neon_vectors}
+use Rattle.c_parse.specs.Symbols.{infix_marks, assignment_marks, other_marks, or_symbol, mark_symbol, type_words, vector_symbol, other_words, statement_words, keywords, later_keywords, name_symbol, symbol_in, symbol_of}
 use Rattle.c_parse.specs.Types.{counted, integer_of, integer_type, base_of, pointer_to}
 use Rattle.c_parse.specs.Reading.{or_else, front, level_of, prefix_of, half_in, node, infix_kind, specify, specifiers_front, no_specifiers, is_star, past_qualifiers, behind, with_rest, type_front}
 use Rattle.c_parse.specs.Grammar as Grammar
@@ -97,7 +98,7 @@ by_test P false h k = k
 name_unassigned : (text : List ℕ) → Unassigned (name_symbol Neon text)
 name_unassigned text =
     found Unassigned (λ s. s) (bytes_eq text) type_words _ _
-    (found Unassigned (λ s. s) (bytes_eq text) neon_vectors _ _
+    (found Unassigned vector_symbol (bytes_eq text) neon_vectors _ _
     (found Unassigned (λ s. s) (bytes_eq text) other_words _ _
     (found Unassigned (λ s. s) (bytes_eq text) statement_words _ _
     (by_test Unassigned (list_any (bytes_eq text) keywords || list_any (bytes_eq text) later_keywords) tt tt))))
@@ -106,7 +107,7 @@ name_unassigned text =
 name_typed : (text : List ℕ) → Typed (name_symbol Neon text)
 name_typed text =
     found Typed (λ s. s) (bytes_eq text) type_words _ _
-    (found Typed (λ s. s) (bytes_eq text) neon_vectors _ _
+    (found Typed vector_symbol (bytes_eq text) neon_vectors _ _
     (found Typed (λ s. s) (bytes_eq text) other_words _ _
     (found Typed (λ s. s) (bytes_eq text) statement_words _ _
     (by_test Typed (list_any (bytes_eq text) keywords || list_any (bytes_eq text) later_keywords) tt tt))))

@@ -20,13 +20,13 @@ use Rattle.lane_core.specs.declared.vector.Pointee.TheVariants as pointees
 use Rattle.c_tree.specs.declared.types.CType.{CType}
 use Rattle.c_tree.specs.declared.types.CType.TheVariants as ctypes
 use Rattle.c_tree.specs.Tree as trees
-use Rattle.c_tree.specs.Tree.{Tree, Kind, Trees, Node, NoTrees, More, Object, Statement, Statements, Optional, Declare, Run, Block, If, While, DoWhile, For, Break, Continue, Return, Empty, Absent, Present, NoStatements, Then}
-use Rattle.c_tree.specs.Tree.{Definition, External, Function, Table}
+use Rattle.c_tree.specs.Tree.{Tree, Kind, Trees, Node, NoTrees, More, Object, Statement, Statements, Optional, Declare, Run, Block, If, While, DoWhile, For, Break, Continue, Return, Empty, Absent, Present, NoStatements, Then, Definition, External, Function, Table}
 use Rattle.c_print.specs.declared.statements.Position.{Position}
 use Rattle.c_print.specs.declared.statements.Position.TheVariants.{Line, Body, Else}
 use Rattle.c_print.specs.Types.{vector_text, is_base_const}
 use Rattle.c_print.specs.Constants.{magnitude_text}
-use Rattle.c_print.specs.Expressions.{operator_text, prefix_text, step_text, operator_level, kind_level, is_wrapped_operand}
+use Rattle.c_tree.specs.Operators.{operator_text, prefix_text, step_text}
+use Rattle.c_print.specs.Expressions.{operator_level, kind_level, is_wrapped_operand}
 use Rattle.c_print.specs.Declarations.{has_const, is_shared}
 use Rattle.c_print.specs.Statements.{is_if}
 use Rattle.round_trip.specs.Words.{Bit, is_plain_byte, all_plain}
@@ -35,8 +35,7 @@ use Rattle.round_trip.specs.GoodUnits.{GoodPart, GoodList, GoodObject, GoodOther
 use Rattle.round_trip.proofs.Bits.{bit, name, number, mark, space, line_end, comma, integer_bits, pointee_bits, base_bits, const_bits, type_bits, constant_bits, opening_bits, closing_bits, spaced_bits, assignment_mark, expression_bits, part_bits, operand_bits, kind_bits, list_bits, more_bits}
 use Rattle.round_trip.proofs.Numerals.{numeral_plain}
 use Rattle.round_trip.proofs.Cuts.{vector_named}
-use Rattle.round_trip.proofs.UnitBits.{specifiers_bits, star_bits, length_bits, brackets_bits, declarator_bits, alignas_bits, attribute_bits, shared_bits, own_bits, init_bits, init_list_bits, declared_bits, further_bits, declaration_bits, parameter_bits, further_parameter_bits, parameters_bits}
-use Rattle.round_trip.proofs.UnitBits.{margin_bits, optional_bits, simple_bits, start_bits, for_bits, first_bits, opened_bits, closed_bits, condition_bits, statement_bits, otherwise_bits, statements_bits, static_bits, inline_bits, result_bits, heading_bits, item_bits, items_bits, unit_bits}
+use Rattle.round_trip.proofs.UnitBits.{specifiers_bits, star_bits, length_bits, brackets_bits, declarator_bits, alignas_bits, attribute_bits, shared_bits, own_bits, init_bits, init_list_bits, declared_bits, further_bits, declaration_bits, parameter_bits, further_parameter_bits, parameters_bits, margin_bits, optional_bits, simple_bits, start_bits, for_bits, first_bits, opened_bits, closed_bits, condition_bits, statement_bits, otherwise_bits, statements_bits, static_bits, inline_bits, result_bits, heading_bits, item_bits, items_bits, unit_bits}
 
 -- a token of plain bytes in front of plain words
 pub token_plain : (kind : TokenKind) (x : List ℕ) (bs : List Bit) → all_are is_plain_byte x ≡ true → all_plain bs ≡ true → all_plain (bit (Lexeme kind) x bs) ≡ true

@@ -7,7 +7,6 @@ mod Excluded
 mod Expressions
 mod FirstRun
 mod FreeNames
-mod Fronts
 mod Good
 mod Headings
 mod IncludesRead

@@ -9,15 +9,16 @@ use Rattle.c_text.specs.declared.tokens.Dialect.TheVariants.{X86, Neon}
 use Rattle.c_text.specs.declared.tokens.Place.{Place}
 use Rattle.c_text.specs.declared.refusals.Refusal.{Refusal}
 use Rattle.c_tree.specs.declared.types.CType.{CType}
-use Rattle.c_tree.specs.Tree.{Tree, Kind, Trees, Node, Const, Name, Unary, Step, Binary, AndThen, OrElse, Choice, Assign, Comma, Cast, Index, Deref, Address, Call, Half, PairOf, SizeOfType, SizeOfName, Str, NoTrees, More}
-use Rattle.c_tree.specs.Tree.{Object, Statement, Statements, Optional, Declare, Run, Block, If, While, DoWhile, For, Break, Continue, Return, Empty, Absent, Present, NoStatements, Then, Definition, External, Function, Table}
-use Rattle.type_rules.specs.Types.{read_type, is_void_pointer, is_scalar, is_integer, same_type, node_type, assigned}
+use Rattle.c_tree.specs.Tree.{Tree, Kind, Trees, Node, Const, Name, Unary, Step, Binary, AndThen, OrElse, Choice, Assign, Comma, Cast, Index, Deref, Address, Call, Half, PairOf, SizeOfType, SizeOfName, Str, NoTrees, More, Object, Statement, Statements, Optional, Declare, Run, Block, If, While, DoWhile, For, Break, Continue, Return, Empty, Absent, Present, NoStatements, Then, Definition, External, Function, Table}
+use Rattle.c_tree.specs.Nodes.{node_type}
+use Rattle.type_rules.specs.Types.{read_type, is_void_pointer, is_scalar, is_integer, same_type, assigned}
 use Rattle.type_rules.specs.Operations.{cast_node, size_node}
 use Rattle.type_rules.specs.Passing.{passed, immediate_of}
-use Rattle.expression_types.specs.Marks.{short}
+use Rattle.c_tree.specs.Marks.{short}
 use Rattle.const_imm.specs.Sizes.{size_of}
 use Rattle.object_types.specs.Reserved.{is_reserved}
-use Rattle.object_types.specs.Objects.{known as known_object, is_object_type, is_array, new_name, unfit, count_of, is_alignment, alignment_of, alignment, is_small, small, is_room, is_member, member, members, count_all, element_of, number_of, is_open, with_number, Length, length_of, aligned, closed_type, small_once, value_fits, number_for, is_no_trees, counted, start, declared_type, behind_declarator, behind_name, check_object}
+use Rattle.c_tree.specs.Types.{is_array}
+use Rattle.object_types.specs.Objects.{known as known_object, is_object_type, new_name, unfit, count_of, is_alignment, alignment_of, alignment, is_small, small, is_room, is_member, member, members, count_all, element_of, number_of, is_open, with_number, Length, length_of, aligned, closed_type, small_once, value_fits, number_for, is_no_trees, counted, start, declared_type, behind_declarator, behind_name, check_object}
 use Rattle.statement_types.specs.Statements.{Around, inside, looped, with_objects, check_objects, scalar, condition, maybe_condition, maybe_expression, returned_value, returned, in_a_loop, beyond, beyond_optional, around, check_statement, check_optional, check_statements}
 use Rattle.order_rule.specs.Callees.{Before, Callees}
 use Rattle.order_rule.specs.Full.{full_expressions, first_broken, refusal}

@@ -1,6 +1,6 @@
 //! Whether a unit is of the first form.
 
-ghost use Rattle.std.specs.Prelude.{◌≡◌, [], true, false, map, IfOk, IfSome, IfNone, Some, None, take};
+ghost use Rattle.std.specs.Prelude.{◌≡◌, [], true, false, map, IfOk, IfSome, IfNone, Some, None};
 ghost use Rattle.c_text.specs.declared.tokens.Dialect.TheVariants.{Neon};
 ghost use Rattle.c_text.specs.Forms.{is_letter, is_name_byte, all_are, is_name};
 ghost use Rattle.c_parse.specs.Symbols.{name_symbol};
@@ -11,7 +11,7 @@ ghost use Rattle.simd_top.specs.NameSets.{names_in, AreNames};
 use crate::names::NameSet;
 use crate::rows::intel_row;
 use c_parse::{Symbol, token_symbol};
-use c_text::{Dialect, Place, Refusal, Text, Token, TokenKind};
+use c_text::{Dialect, Place, Refusal, Text, Token, TokenKind, shortened};
 use c_tree::{CType, Declared, Expr, ExprKind, Function, Item, Stmt};
 use object_types::is_reserved;
 use std::alloc::{AllocError, Global};
@@ -254,17 +254,6 @@ fn item_place(item: &Item) -> Place
     match item {
         Item::Function(f) => f.place,
         Item::Table(o, _) => o.place,
-    }
-}
-
-/// At most the first 255 bytes.
-pub fn shortened(bytes: &[u8]) -> &[u8]
-    ensures { result.now ≡ take 255 bytes.now }
-{
-    if bytes.len() > 255 {
-        &bytes[..255]
-    } else {
-        bytes
     }
 }
 

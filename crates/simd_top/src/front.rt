@@ -2,34 +2,20 @@
 
 ghost use Rattle.std.specs.Prelude.{◌≡◌, ◌<◌, ◌≤◌, ◌^◌, length, IfOk, IfErr, Some, None, [], ◌∷◌};
 ghost use Rattle.c_preproc.specs.Scan.{first_refusal};
-ghost use Rattle.c_text.specs.Details.{IfRefused, refusal_of};
+ghost use Rattle.c_text.specs.Details.{IfRefused};
 ghost use Rattle.c_tree.specs.View.{view_unit};
 ghost use Rattle.vector_types.specs.Answers.{IfRefused as IfListRefused};
 ghost use Rattle.simd_top.specs.Includes.{behind_includes, first_hash};
 ghost use Rattle.simd_top.specs.Seen.{IsAlone};
 ghost use Rattle.simd_top.specs.Source.{source_limit, AreUnit, AreRefused, IsParsed, IsUnparsed, HasUnit, AreFirst};
 
-use crate::form::shortened;
 use crate::includes::{behind_includes, first_hash};
 use c_parse::parse;
 use c_preproc::scan;
-use c_text::{Dialect, Fail, Refusal, Text, Token, lex};
+use c_text::{Dialect, Fail, Refusal, Token, lex, refuse_token};
 use c_tree::Unit;
 use std::alloc::{AllocError, Global};
 use vector_types::{CheckFail, TypedUnit, check};
-
-fn directive(alloc: Global, token: &Token) -> Fail
-    ensures { IfRefused result (λ r. r ≡ refusal_of 9 token.now) }
-{
-    match Text::new(alloc, shortened(token.text.bytes())) {
-        Ok(detail) => Fail::Refused(Refusal {
-            number: 9,
-            place: token.place,
-            detail,
-        }),
-        Err(_) => Fail::Memory,
-    }
-}
 
 // What is left of the tokens behind their include lines, which have no directive.
 fn past_includes(alloc: Global, dialect: Dialect, tokens: &[Token]) -> Result<&[Token], Fail>
@@ -39,7 +25,7 @@ fn past_includes(alloc: Global, dialect: Dialect, tokens: &[Token]) -> Result<&[
 {
     let rest = behind_includes(dialect, tokens);
     match first_hash(rest) {
-        Some(token) => Err(directive(alloc, token)),
+        Some(token) => Err(refuse_token(alloc, 9, token)),
         None => Ok(rest),
     }
 }

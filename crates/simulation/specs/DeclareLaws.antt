@@ -8,14 +8,14 @@ use Rattle.c_memory.specs.declared.blocks.Block.{Block}
 use Rattle.c_memory.specs.declared.value.Value.{Value}
 use Rattle.c_memory.specs.MeaningObjects.{encoded, array_bytes, unset_bytes}
 use Rattle.c_memory.specs.MeaningState.{InBlock, Binding, State, Does, then_do, ◌>>=◌, ◌>>◌, pure, defined, found, object_of}
-use Rattle.c_memory.specs.Meaning.{Calls, Later, is_array, expression, its_value, first_value, first_bytes, fill, initialised, declare_one, begin_parameter}
+use Rattle.c_tree.specs.Types.{is_array}
+use Rattle.c_memory.specs.Meaning.{Calls, Later, expression, its_value, first_value, first_bytes, fill, initialised, declare_one, begin_parameter}
 use Rattle.address_taken.specs.Addressed.{takes_optional, takes_statements}
 use Rattle.simulation.specs.Alike.{Relation, Options, Covers, Objects, Alike, After, Ends, Sim}
 use Rattle.simulation.specs.Carried.{MayBeSet, Fixed, InMemory, Carried, Shared, Marks, Unmarked, Number, Scope, Begun, inner, mark_of}
 use Rattle.simulation.specs.Steps.{weaker_ends, bind_sim, bind_same, pure_sim}
 use Rattle.simulation.specs.ScopeLaws.{object_sim}
-use Rattle.simulation.specs.ObjectLaws.{first_block, begin_apart_sim, begin_block_sim, begin_block_then, first_values, set_front_sim, with_block, AreFirst}
-use Rattle.simulation.specs.ObjectLaws.{fill_ends}
+use Rattle.simulation.specs.ObjectLaws.{first_block, begin_apart_sim, begin_block_sim, begin_block_then, first_values, set_front_sim, with_block, AreFirst, fill_ends}
 use Rattle.simulation.specs.FunctionLaws.{carried_front}
 
 -- an object is a block of its own: an array, or one whose address is taken

@@ -8,27 +8,23 @@ use Rattle.lane_core.specs.declared.number.BinOp.TheVariants as op
 use Rattle.lane_core.specs.declared.number.UnOp.{UnOp}
 use Rattle.c_text.specs.declared.tokens.Place.{Place}
 use Rattle.c_tree.specs.declared.types.CType.{CType}
-use Rattle.c_tree.specs.Tree.{Tree, Trees, Node, Const, Name, Unary, Step, Binary, AndThen, OrElse, Choice, Assign, Comma, Cast, Index, Deref, Address, Call}
-use Rattle.c_tree.specs.Tree.{PairOf, SizeOfType, SizeOfName, NoTrees, More}
+use Rattle.c_tree.specs.Tree.{Tree, Trees, Node, Const, Name, Unary, Step, Binary, AndThen, OrElse, Choice, Assign, Comma, Cast, Index, Deref, Address, Call, PairOf, SizeOfType, SizeOfName, NoTrees, More}
 use Rattle.c_memory.specs.declared.blocks.Block.{Block}
 use Rattle.c_memory.specs.declared.memory.Pointer.{Pointer}
 use Rattle.c_memory.specs.declared.memory.Pointer.TheVariants.{At}
 use Rattle.c_memory.specs.declared.value.Value.{Value}
 use Rattle.c_memory.specs.Memory.{after_write}
 use Rattle.c_memory.specs.Values.{AreBytes}
-use Rattle.c_memory.specs.MeaningObjects.{encoded, load_from, load, stored_at, store, value_at, value_named, Target, Named, HalfNamed, There, read_target}
-use Rattle.c_memory.specs.MeaningObjects.{set_target, target_of}
+use Rattle.c_memory.specs.MeaningObjects.{encoded, load_from, load, stored_at, store, value_at, value_named, Target, Named, HalfNamed, There, read_target, set_target, target_of}
 use Rattle.c_memory.specs.MeaningValues.{holds, as_int, operate, operate_before, converted_value, next}
 use Rattle.c_memory.specs.MeaningState.{Location, Apart, Halves, InBlock, Binding, State, Out, Done, Turns, Undefined, then_do, pure, defined}
-use Rattle.c_memory.specs.Meaning.{Calls, type_of, its_value, give, condition, object_value, array_value, there, address, cast_to, assigned_by, pair_of}
-use Rattle.c_memory.specs.Meaning.{size_value, element, element_of, expression, target, last, values, is_array}
+use Rattle.c_memory.specs.Meaning.{Calls, type_of, its_value, give, condition, object_value, array_value, there, address, cast_to, assigned_by, pair_of, size_value, element, element_of, expression, target, last, values}
+use Rattle.c_tree.specs.Types.{is_array}
 use Rattle.simulation.specs.Alike.{Relation, Options, Given, Arguments, Blocks, Objects, Stays, Sim, CallsTo}
-use Rattle.simulation.specs.Carried.{Way, MayBeSet, Fixed, Held, InMemory, MayChange, Carried, Shared, Mark, Marks, Number, Unmarked, Values, AreSet, Places}
-use Rattle.simulation.specs.Carried.{Kept, Scope, carried, mark_of}
+use Rattle.simulation.specs.Carried.{Way, MayBeSet, Fixed, Held, InMemory, MayChange, Carried, Shared, Mark, Marks, Number, Unmarked, Values, AreSet, Places, Kept, Scope, carried, mark_of}
 use Rattle.simulation.specs.BlockLaws.{write_stays, finer_same}
 use Rattle.simulation.specs.MemoryLaw.{MemoryLaw}
-use Rattle.simulation.specs.Steps.{bind_sim, bind_same, pure_sim, undefined_sim, defined_sim, from_memory_sim, to_memory_sim, choose_sim, its_value_sim}
-use Rattle.simulation.specs.Steps.{give_sim, call_sim, first_as, second_as}
+use Rattle.simulation.specs.Steps.{bind_sim, bind_same, pure_sim, undefined_sim, defined_sim, from_memory_sim, to_memory_sim, choose_sim, its_value_sim, give_sim, call_sim, first_as, second_as}
 use Rattle.simulation.specs.ScopeLaws.{Binds, object_sim, set_apart_sim}
 use Rattle.simulation.specs.HeldLaws.{plain_value}
 use Rattle.simulation.specs.ObjectLaws.{named_targets, AreNamed}

@@ -7,10 +7,10 @@ use Rattle.c_tree.specs.Tree.{Node, Name}
 use Rattle.c_memory.specs.declared.value.Value.{Value}
 use Rattle.c_memory.specs.MeaningObjects.{value_at, value_named}
 use Rattle.c_memory.specs.MeaningState.{Apart, Binding, State, Done, Does, then_do, pure, defined, found}
-use Rattle.c_memory.specs.Meaning.{Calls, expression, object_value, is_array}
+use Rattle.c_tree.specs.Types.{is_array}
+use Rattle.c_memory.specs.Meaning.{Calls, expression, object_value}
 use Rattle.simulation.specs.Alike.{Relation, Alike, Sim}
-use Rattle.simulation.specs.Carried.{Way, MayBeSet, Fixed, Held, InMemory, Carried, Shared, Added, Halved, Mark, Marks, Values, AreSet, Kept, AddedAt, Both}
-use Rattle.simulation.specs.Carried.{IsNamed, InHalves, Scope, outer, inner, is_named, carried, mark_of, as_held, held, marked}
+use Rattle.simulation.specs.Carried.{Way, MayBeSet, Fixed, Held, InMemory, Carried, Shared, Added, Halved, Mark, Marks, Values, AreSet, Kept, AddedAt, Both, IsNamed, InHalves, Scope, outer, inner, is_named, carried, mark_of, as_held, held, marked}
 use Rattle.simulation.specs.Steps.{weaker_ends}
 use Rattle.simulation.specs.ScopeLaws.{Seen, found_seen}
 

@@ -4,7 +4,8 @@ use Rattle.c_text.specs.declared.tokens.Place.{Place}
 use Rattle.c_tree.specs.declared.types.CType.{CType}
 use Rattle.c_tree.specs.declared.types.CType.TheVariants.{Int, Pointer}
 use Rattle.c_tree.specs.Tree.{Tree, Object, Statement, Statements, Optional}
-use Rattle.type_rules.specs.Types.{node_type, is_scalar, assigned}
+use Rattle.c_tree.specs.Nodes.{node_type}
+use Rattle.type_rules.specs.Types.{is_scalar, assigned}
 use Rattle.type_rules.specs.Rules.{IsScalar, Assigned}
 use Rattle.scopes.specs.Scopes.{Env, with_object}
 use Rattle.expression_types.specs.Check.{check}

@@ -4,9 +4,10 @@ use Rattle.c_text.specs.declared.tokens.Place.{Place}
 use Rattle.c_tree.specs.declared.types.CType.{CType}
 use Rattle.c_tree.specs.declared.types.CType.TheVariants.{Void}
 use Rattle.c_tree.specs.Tree.{Tree, Object, Statement, Statements, Optional, Declare, Run, Block, If, While, DoWhile, For, Break, Continue, Return, Empty, Absent, Present, NoStatements, Then}
-use Rattle.type_rules.specs.Types.{node_type, node_place, is_scalar, same_type, assigned}
+use Rattle.c_tree.specs.Nodes.{node_type, node_place}
+use Rattle.type_rules.specs.Types.{is_scalar, same_type, assigned}
 use Rattle.scopes.specs.Scopes.{Env, with_object, opened}
-use Rattle.expression_types.specs.Marks.{mark}
+use Rattle.c_tree.specs.Marks.{mark}
 use Rattle.expression_types.specs.Check.{◌>>=◌, Checked, refuse, check}
 use Rattle.object_types.specs.Objects.{known, check_object}
 

@@ -4,7 +4,7 @@ use Rattle.c_text.specs.declared.tokens.Place.{Place}
 use Rattle.c_tree.specs.declared.types.CType.{CType}
 use Rattle.c_tree.specs.declared.types.CType.TheVariants.{Void}
 use Rattle.c_tree.specs.Tree.{Tree, Object, Statement, Statements, Optional, Declare, Run, Block, If, While, DoWhile, For, Break, Continue, Return, Empty, Absent, Present, NoStatements, Then}
-use Rattle.type_rules.specs.Types.{node_type}
+use Rattle.c_tree.specs.Nodes.{node_type}
 use Rattle.type_rules.specs.Rules.{IsScalar, Assigned}
 use Rattle.scopes.specs.Scopes.{Env, with_object}
 use Rattle.expression_types.specs.Typed.{Typed}

@@ -9,8 +9,8 @@ ghost use Rattle.expression_types.specs.Check.{Gives};
 ghost use Rattle.statement_types.specs.Statements.{scalar, condition, maybe_condition, maybe_expression, returned_value, returned, in_a_loop};
 
 use c_text::{Refusal, Text};
-use c_tree::{CType, Expr, Place, Stmt};
-use expression_types::{Environment, Fail, check_expression, fault};
+use c_tree::{CType, Expr, Place, Stmt, fault};
+use expression_types::{Environment, Fail, check_expression};
 use std::alloc::{AllocError, Global};
 use type_rules::{assigned_expr, is_scalar, same_type};
 

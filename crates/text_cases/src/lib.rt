@@ -1,10 +1,6 @@
-//! Tables of texts and their tokens, of uses of macros, and of words of types. Nothing stands on this crate.
+//! Tables of texts and their tokens, of streams, and of rows found by name. Nothing stands on this crate.
 #![tactic(auto)]
 
-#[cfg(test)]
-mod macro_uses;
-#[cfg(test)]
-mod reading;
 #[cfg(test)]
 mod row_search;
 #[cfg(test)]
@@ -13,5 +9,3 @@ mod scans;
 mod streams;
 #[cfg(test)]
 mod tokens;
-#[cfg(test)]
-mod type_words;

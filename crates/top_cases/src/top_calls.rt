@@ -28,7 +28,7 @@ fn words_of(alloc: Global, words: &[&str]) -> Result<Vec<String>, AllocError> {
 }
 
 /// A call over a source whose listed reads fail, and an output that takes ten bytes a call and whose listed writes fail.
-pub fn run(
+pub(crate) fn run(
     alloc: Global,
     words: &[&str],
     source: &[u8],

@@ -80,7 +80,7 @@ fn show_all(alloc: Global, out: &mut Vec<u8>, all: &[Expr]) -> Result<(), AllocE
     put(out, ")")
 }
 
-pub fn show_type(alloc: Global, out: &mut Vec<u8>, ty: CType) -> Result<(), AllocError> {
+pub(crate) fn show_type(alloc: Global, out: &mut Vec<u8>, ty: CType) -> Result<(), AllocError> {
     let text = format!(in alloc; "<{ty:?}>")?;
     put(out, text.as_str())
 }
@@ -178,7 +178,7 @@ fn show_operands(alloc: Global, out: &mut Vec<u8>, e: &Expr) -> Result<(), Alloc
 }
 
 #[cycle(showing)]
-pub fn show(alloc: Global, out: &mut Vec<u8>, e: &Expr) -> Result<(), AllocError> {
+pub(crate) fn show(alloc: Global, out: &mut Vec<u8>, e: &Expr) -> Result<(), AllocError> {
     match &*e.kind {
         ExprKind::Unary(op, a) => show_prefix(alloc, out, prefix_of(*op), a),
         ExprKind::Deref(a) => show_prefix(alloc, out, "*", a),
@@ -229,7 +229,11 @@ fn show_list(alloc: Global, out: &mut Vec<u8>, all: &[Expr]) -> Result<(), Alloc
     Ok(())
 }
 
-pub fn show_object(alloc: Global, out: &mut Vec<u8>, object: &Declared) -> Result<(), AllocError> {
+pub(crate) fn show_object(
+    alloc: Global,
+    out: &mut Vec<u8>,
+    object: &Declared,
+) -> Result<(), AllocError> {
     out.extend_from_slice(object.name.bytes())?;
     put(out, ": ")?;
     show_type(alloc, out, object.ty)?;
@@ -247,7 +251,11 @@ pub fn show_object(alloc: Global, out: &mut Vec<u8>, object: &Declared) -> Resul
     Ok(())
 }
 
-pub fn show_objects(alloc: Global, out: &mut Vec<u8>, all: &[Declared]) -> Result<(), AllocError> {
+pub(crate) fn show_objects(
+    alloc: Global,
+    out: &mut Vec<u8>,
+    all: &[Declared],
+) -> Result<(), AllocError> {
     let mut before = "";
     for object in all {
         put(out, before)?;
@@ -257,7 +265,11 @@ pub fn show_objects(alloc: Global, out: &mut Vec<u8>, all: &[Declared]) -> Resul
     Ok(())
 }
 
-pub fn show_heading(alloc: Global, out: &mut Vec<u8>, f: &Function) -> Result<(), AllocError> {
+pub(crate) fn show_heading(
+    alloc: Global,
+    out: &mut Vec<u8>,
+    f: &Function,
+) -> Result<(), AllocError> {
     if f.is_static {
         put(out, "static ")?;
     }
@@ -394,7 +406,7 @@ fn show_item(alloc: Global, out: &mut Vec<u8>, item: &Item) -> Result<(), AllocE
     }
 }
 
-pub fn show_unit(alloc: Global, out: &mut Vec<u8>, unit: &Unit) -> Result<(), AllocError> {
+pub(crate) fn show_unit(alloc: Global, out: &mut Vec<u8>, unit: &Unit) -> Result<(), AllocError> {
     let mut before = "";
     for item in unit.items.as_slice() {
         put(out, before)?;

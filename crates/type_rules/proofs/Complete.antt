@@ -17,7 +17,8 @@ use Rattle.c_tree.specs.Tree as tree
 use Rattle.c_tree.specs.Tree.{Tree, Kind, Trees, Node, NoTrees, More}
 use Rattle.type_rules.specs.declared.operands.Fit.{Fit}
 use Rattle.type_rules.specs.declared.passing.Parameter.{Parameter}
-use Rattle.type_rules.specs.Types.{node_type, is_zero, same_type, converted, assigned}
+use Rattle.c_tree.specs.Nodes.{node_type}
+use Rattle.type_rules.specs.Types.{is_zero, same_type, converted, assigned}
 use Rattle.type_rules.specs.Operations as o
 use Rattle.type_rules.specs.Operations.{chosen, compound_type, last_after, last_type, result_of}
 use Rattle.type_rules.specs.Passing.{given, passed}

@@ -19,7 +19,8 @@ use Rattle.c_tree.specs.Tree.{Tree, Kind, Trees, Node, NoTrees, More}
 use Rattle.type_rules.specs.declared.operands.Fit.{Fit}
 use Rattle.type_rules.specs.declared.passing.Parameter.{Parameter}
 use Rattle.type_rules.specs.declared.passing.Parameter.TheVariants.{Object, Immediate}
-use Rattle.type_rules.specs.Types.{node_type, is_zero, is_integer, is_scalar, is_vector, is_object, same_pointee, same_type, is_like, keeps_const, is_assignable, converted, assigned}
+use Rattle.c_tree.specs.Nodes.{node_type}
+use Rattle.type_rules.specs.Types.{is_zero, is_integer, is_scalar, is_vector, is_object, same_pointee, same_type, is_like, keeps_const, is_assignable, converted, assigned}
 use Rattle.type_rules.specs.Operations as o
 use Rattle.type_rules.specs.Operations.{when, fitted, operands_fit, chosen, arms_type, right_side, compound_type, last_after, last_type, result_of}
 use Rattle.type_rules.specs.Passing.{given, and_rest, passed}

@@ -11,7 +11,8 @@ use Rattle.lane_core.specs.declared.vector.Pointee.TheVariants as target
 use Rattle.c_tree.specs.declared.types.CType.{CType}
 use Rattle.c_tree.specs.declared.types.CType.TheVariants as type
 use Rattle.c_tree.specs.Tree.{Tree}
-use Rattle.type_rules.specs.Types.{same_integer, same_lane, same_pointee, same_type, is_scalar, is_vector, is_character, is_object, object_type, is_like, keeps_const, node_type, converted}
+use Rattle.c_tree.specs.Nodes.{node_type}
+use Rattle.type_rules.specs.Types.{same_integer, same_lane, same_pointee, same_type, is_scalar, is_vector, is_character, is_object, object_type, is_like, keeps_const, converted}
 use Rattle.type_rules.specs.Rules.{IsObject, IsObjectOf, an_integer, a_vector, a_wide_vector, IsScalar, IsVector, IsCharacter}
 
 pub both : (x y : Bool) → (x && y) ≡ true → (x ≡ true) × (y ≡ true)

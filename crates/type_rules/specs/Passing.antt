@@ -13,7 +13,8 @@ use Rattle.c_tree.specs.Tree.{Tree, Trees, NoTrees, More}
 use Rattle.type_rules.specs.declared.passing.Parameter.{Parameter}
 use Rattle.type_rules.specs.declared.passing.Parameter.TheVariants.{Object, Immediate}
 use Rattle.type_rules.specs.declared.passing.Heading.{Heading as CodeHeading}
-use Rattle.type_rules.specs.Types.{is_integer, node_type, assigned}
+use Rattle.c_tree.specs.Nodes.{node_type}
+use Rattle.type_rules.specs.Types.{is_integer, assigned}
 
 -- what a call gives, and what it takes
 pub record Heading : Type 0 where

@@ -20,7 +20,8 @@ use Rattle.c_tree.specs.declared.types.CType.TheVariants as type
 use Rattle.c_tree.specs.Tree.{Tree, Kind, Trees, Node, Const, Unary, Step, Binary, AndThen, OrElse, Choice, Assign, Comma, Cast, Index, Deref, Half, PairOf, SizeOfType, NoTrees, More}
 use Rattle.type_rules.specs.declared.passing.Parameter.{Parameter}
 use Rattle.type_rules.specs.declared.passing.Parameter.TheVariants.{Object, Immediate}
-use Rattle.type_rules.specs.Types.{node_type, is_zero, converted}
+use Rattle.c_tree.specs.Nodes.{node_type}
+use Rattle.type_rules.specs.Types.{is_zero, converted}
 
 -- an integer, and a pointer, const or not, to this type
 abbrev pub HasInteger : Tree → IntType → Type 0

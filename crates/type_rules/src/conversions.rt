@@ -2,7 +2,8 @@
 
 ghost use Rattle.std.specs.Prelude.{◌≡◌, IfOk, option_map};
 ghost use Rattle.c_tree.specs.View.{view, view_kind};
-ghost use Rattle.type_rules.specs.Types.{node_type, is_zero, is_zero_kind, converted, assigned};
+ghost use Rattle.c_tree.specs.Nodes.{node_type};
+ghost use Rattle.type_rules.specs.Types.{is_zero, is_zero_kind, converted, assigned};
 ghost use Rattle.type_rules.specs.Operations.{name_node};
 
 use crate::types::{decayed, is_assignable, same_type};

@@ -1,28 +1,19 @@
-//! Tokens and units from texts.
+//! Units from texts.
 
 use c_parse::parse;
 use c_preproc::scan;
-use c_text::{Dialect, Token, lex};
+use c_text::{Dialect, lex};
 use c_tree::Unit;
 use std::alloc::{AllocError, Global};
 use std::test::Fail;
 
-pub fn put(out: &mut Vec<u8>, text: &str) -> Result<(), AllocError> {
+pub(crate) fn put(out: &mut Vec<u8>, text: &str) -> Result<(), AllocError> {
     out.extend_from_slice(text.as_bytes())?;
     Ok(())
 }
 
-// The tokens of a text of at most 1,000 bytes.
-pub fn tokens_of(alloc: Global, text: &str) -> Result<Vec<Token>, Fail> {
-    let bytes = text.as_bytes();
-    if bytes.len() > 1000 {
-        return Err("too long".into());
-    }
-    Ok(lex(alloc, bytes).map_err(|_| "no tokens")?)
-}
-
 // The unit of a text of at most 1,000 bytes, in which `$` stands for a line end.
-pub fn read(alloc: Global, text: &str, dialect: Dialect) -> Result<Unit, Fail> {
+pub(crate) fn read(alloc: Global, text: &str, dialect: Dialect) -> Result<Unit, Fail> {
     let mut bytes = Vec::new(alloc);
     for line in text.split('$') {
         put(&mut bytes, line)?;

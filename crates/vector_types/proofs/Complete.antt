@@ -10,13 +10,15 @@ use Rattle.c_tree.specs.declared.types.CType.TheVariants.{Void, Int, M128, M256,
 use Rattle.c_tree.specs.Tree as tree
 use Rattle.c_tree.specs.Tree.{Tree, Object, Statements, Definition, External}
 use Rattle.c_tree.specs.Same.{unnumbered}
-use Rattle.type_rules.specs.Types.{node_type, read_type, is_void_pointer, is_integer, is_zero, is_assignable, converted, assigned}
+use Rattle.c_tree.specs.Nodes.{node_type}
+use Rattle.type_rules.specs.Types.{read_type, is_void_pointer, is_integer, is_zero, is_assignable, converted, assigned}
 use Rattle.type_rules.specs.Rules.{Assigned}
 use Rattle.scopes.specs.Scopes.{Env, Callee, named, with_object}
 use Rattle.expression_types.specs.Check.{◌>>=◌, check}
 use Rattle.expression_types.specs.Typed.{IsArray, IsVoidPointer, Typed}
 use Rattle.expression_types.proofs.Sound.{after}
-use Rattle.object_types.specs.Objects.{is_array, known, alignment, aligned, small_once, is_open, new_name, length_of, member, with_number, declared_type, behind_declarator, check_object}
+use Rattle.c_tree.specs.Types.{is_array}
+use Rattle.object_types.specs.Objects.{known, alignment, aligned, small_once, is_open, new_name, length_of, member, with_number, declared_type, behind_declarator, check_object}
 use Rattle.object_types.specs.Typed as object
 use Rattle.object_types.specs.Typed.{TypedMember, TypedObject}
 use Rattle.statement_types.specs.Statements.{Around, with_objects, around, check_statements}

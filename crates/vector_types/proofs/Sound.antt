@@ -11,14 +11,16 @@ use Rattle.c_tree.specs.declared.types.CType.{CType}
 use Rattle.c_tree.specs.declared.types.CType.TheVariants.{Void, Int, M128, M256, Neon, Pair, Pointer, Array}
 use Rattle.c_tree.specs.Tree as tree
 use Rattle.c_tree.specs.Tree.{Tree, Object, Statements, Definition, External}
-use Rattle.type_rules.specs.Types.{node_type, read_type, is_void_pointer, is_integer, is_zero, is_assignable, converted, assigned}
+use Rattle.c_tree.specs.Nodes.{node_type}
+use Rattle.type_rules.specs.Types.{read_type, is_void_pointer, is_integer, is_zero, is_assignable, converted, assigned}
 use Rattle.type_rules.specs.Rules.{Assigned}
 use Rattle.scopes.specs.Scopes.{Env, Callee, named, is_declared_here, with_object}
 use Rattle.expression_types.specs.Check.{◌>>=◌, Checked, check}
 use Rattle.expression_types.specs.Typed.{IsArray, Typed}
 use Rattle.expression_types.proofs.Sound.{ok, after, becomes}
 use Rattle.object_types.specs.Reserved.{is_reserved}
-use Rattle.object_types.specs.Objects.{is_array, is_object_type, known, is_member, member, behind_declarator, check_object}
+use Rattle.c_tree.specs.Types.{is_array}
+use Rattle.object_types.specs.Objects.{is_object_type, known, is_member, member, behind_declarator, check_object}
 use Rattle.object_types.specs.Typed as object
 use Rattle.object_types.specs.Typed.{TypedMember, TypedObject}
 use Rattle.object_types.proofs.ObjectTests.{both, unnegated, absent, void-pointer-says}

@@ -11,10 +11,11 @@ use Rattle.type_rules.specs.declared.passing.Parameter.TheVariants as passing
 use Rattle.type_rules.specs.Types.{read_type, is_void_pointer}
 use Rattle.type_rules.specs.Passing.{Heading}
 use Rattle.scopes.specs.Scopes.{Env, Callee, named, is_declared_here, with_object, opened}
-use Rattle.expression_types.specs.Marks.{short}
+use Rattle.c_tree.specs.Marks.{short}
 use Rattle.expression_types.specs.Check.{◌>>=◌, Checked, refuse}
 use Rattle.object_types.specs.Reserved.{is_reserved}
-use Rattle.object_types.specs.Objects.{is_array, known, check_object}
+use Rattle.c_tree.specs.Types.{is_array}
+use Rattle.object_types.specs.Objects.{known, check_object}
 use Rattle.statement_types.specs.Statements.{with_objects, around, check_statements}
 
 -- what calls see of a function: its result and its parameters, as the dialect reads their types

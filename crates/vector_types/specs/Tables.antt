@@ -8,7 +8,7 @@ use Rattle.c_tree.specs.Tree.{Tree, Trees, Object}
 use Rattle.type_rules.specs.Types.{read_type, is_integer}
 use Rattle.scopes.specs.declared.environment.Object.{Object as Known}
 use Rattle.scopes.specs.Scopes.{Env, with_object}
-use Rattle.expression_types.specs.Marks.{short}
+use Rattle.c_tree.specs.Marks.{short}
 use Rattle.expression_types.specs.Check.{◌>>=◌, Checked, refuse, check}
 use Rattle.object_types.specs.Reserved.{is_reserved}
 use Rattle.object_types.specs.Objects.{is_object_type, alignment, member, count_all, count_of, known, declared_type, behind_declarator, check_object}

@@ -11,9 +11,9 @@ ghost use Rattle.vector_types.specs.Functions.{function_name, is_bare, check_par
 
 use crate::file_scope::is_taken;
 use c_text::{Dialect, Text};
-use c_tree::{CType, Declared, Function, Place};
-use expression_types::{Environment, Fail, name_fault};
-use object_types::{check_object, is_array, is_reserved};
+use c_tree::{CType, Declared, Function, Place, is_array, name_fault};
+use expression_types::{Environment, Fail};
+use object_types::{check_object, is_reserved};
 use statement_types::check_body;
 use std::alloc::{AllocError, Global};
 use type_rules::{is_void_pointer, read_type};

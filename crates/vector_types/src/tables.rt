@@ -11,9 +11,9 @@ ghost use Rattle.vector_types.specs.Tables.{is_table_type, is_table, fits_file, 
 ghost use Rattle.vector_types.specs.Functions.{is_taken};
 
 use crate::file_scope::{end_item, is_taken};
-use c_tree::{CType, Declared, Expr, Pointee};
+use c_tree::{CType, Declared, Expr, Pointee, name_fault};
 use const_imm::eval_const;
-use expression_types::{Environment, Fail, Object, check_expression, name_fault};
+use expression_types::{Environment, Fail, Object, check_expression};
 use object_types::{
     alignment, check_object, declared_type, is_object_type, is_reserved, known, member,
 };
