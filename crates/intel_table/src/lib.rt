@@ -186,7 +186,8 @@ fn part_name(op: IntelOp) -> &'static str
     }
 }
 
-fn form(op: IntelOp) -> Form
+/// The row's form: what it takes, touches and gives. Rows of one form compute the same: `_mm_slli_si128` and `_mm_bslli_si128`.
+pub fn form(op: IntelOp) -> Form
     ensures { result ≡ form_of op }
 {
     match op.row {

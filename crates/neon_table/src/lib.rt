@@ -141,7 +141,8 @@ fn part_name(op: NeonOp) -> &'static str
     }
 }
 
-fn form(op: NeonOp) -> Form
+/// The row's form: what it takes, touches and gives. Rows of one form compute the same.
+pub fn form(op: NeonOp) -> Form
     ensures { result ≡ form_of op }
 {
     match op.row {
