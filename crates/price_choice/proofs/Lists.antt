@@ -103,7 +103,12 @@ one_or_two n h = elim (either h) [ inl e ↦ inl (same n 1 e) | inr e ↦ inr (s
 
 listed_is : (kind : FormKind) (w n : ℕ) → is_listed kind w n ≡ true → IsListed kind w n
 listed_is Dup w n h = (width_is w (both h).0, below n (16 / w) (both h).1)
-listed_is Ext w n h = let k = both (both h).1 in let l = below n 16 k.1 in (same w 1 (both h).0, below 0 n k.0, omega (arith, l))
+listed_is Ext w n h =
+    let k = both (both h).1 in
+    let l : n < 16 = below n 16 k.1 in
+    let more : 0 < n = below 0 n k.0 in
+    let most : n ≤ 15 = omega (arith, l) in
+    (same w 1 (both h).0, more, most)
 listed_is Rev w n h = let k = both (both h).1 in (three w 1 2 4 (both h).0, three n 2 4 8 k.0, below w n k.1)
 listed_is Tbl w n h = absurd (impossible h)
 listed_is _ w n h = (width_is w (both h).0, one_or_two n (both h).1)

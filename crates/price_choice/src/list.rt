@@ -1,7 +1,9 @@
 //! The list of forms, by the place of each: it is never built.
 
-ghost use Rattle.std.specs.Prelude.{◌≡◌, ◌<◌, ◌^◌};
-ghost use Rattle.price_choice.specs.List.{side_at, pair_at, group_at, kind_at, dup_at, form_at};
+ghost use Rattle.std.specs.Prelude.{◌≡◌, ◌<◌, ◌^◌, get_or};
+ghost use Rattle.price_choice.specs.declared.forms.Form.TheVariants.{TablePair};
+ghost use Rattle.price_choice.specs.Forms.{IsForm};
+ghost use Rattle.price_choice.specs.List.{side_at, pair_at, group_at, kind_at, dup_at, form_at, forms};
 
 use crate::forms::{Form, FormKind, Side};
 
@@ -19,8 +21,18 @@ fn side_at(k: u16) -> Side
 }
 
 /// The form at a place of the list, from 0 to 389: cheap forms first, and of one kind in the order of widths and operands.
-#[tactic(auto, unfolding(crate::specs::List::form_at))]
+#[tactic(auto, using(crate::proofs::Lists::form_there, crate::proofs::Lists::listed_form))]
 pub fn form_at(i: u16) -> Form
+    requires { i < 390 }
+    ensures value { result ≡ form_at i }
+    ensures there { get_or forms i TablePair ≡ result }
+    ensures listed { IsForm result }
+{
+    made_at(i)
+}
+
+#[tactic(auto, unfolding(crate::specs::List::form_at))]
+fn made_at(i: u16) -> Form
     requires { i < 390 }
     ensures { result ≡ form_at i }
 {
