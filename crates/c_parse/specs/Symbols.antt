@@ -111,14 +111,18 @@ later_keywords =
     codes "_Atomic" ∷ codes "_Complex" ∷ codes "_Generic" ∷ codes "_Imaginary" ∷ codes "_Noreturn" ∷
     codes "_Static_assert" ∷ codes "_Thread_local" ∷ []
 
+-- what a word is that is in no table but those of keywords
+abbrev pub last_symbol : List ℕ → Symbol
+last_symbol text = if list_any (bytes_eq text) keywords || list_any (bytes_eq text) later_keywords then symbols.Other else symbols.Name
+
+-- what a word is that is no type's
+abbrev pub plain_symbol : List ℕ → Symbol
+plain_symbol text = or_symbol (lookup (bytes_eq text) other_words) (λ s. s) (or_symbol (lookup (bytes_eq text) statement_words) (λ s. s) (last_symbol text))
+
 -- what a word is
 abbrev pub name_symbol : Dialect → List ℕ → Symbol
 name_symbol dialect text =
-    or_symbol (lookup (bytes_eq text) type_words) (λ s. s)
-    (or_symbol (lookup (bytes_eq text) (vectors dialect)) vector_symbol
-    (or_symbol (lookup (bytes_eq text) other_words) (λ s. s)
-    (or_symbol (lookup (bytes_eq text) statement_words) (λ s. s)
-    (if list_any (bytes_eq text) keywords || list_any (bytes_eq text) later_keywords then symbols.Other else symbols.Name))))
+    or_symbol (lookup (bytes_eq text) type_words) (λ s. s) (or_symbol (lookup (bytes_eq text) (vectors dialect)) vector_symbol (plain_symbol text))
 
 -- what a token of this kind and text is
 abbrev pub symbol_in : Dialect → TokenKind → List ℕ → Symbol

@@ -4,7 +4,7 @@ ghost use Rattle.std.specs.Prelude.{◌≡◌, bytes_eq, option_map};
 ghost use Rattle.std.specs.Map.{lookup};
 ghost use Rattle.std.specs.List.{list_any};
 ghost use Rattle.c_tree.specs.Vectors.{vectors};
-ghost use Rattle.c_parse.specs.Symbols.{infix_marks, assignment_marks, other_marks, type_words, vector_symbol, other_words, statement_words, keywords, later_keywords, symbol_of, mark_symbol, name_symbol};
+ghost use Rattle.c_parse.specs.Symbols.{infix_marks, assignment_marks, other_marks, type_words, other_words, statement_words, keywords, later_keywords, last_symbol, plain_symbol, symbol_of, mark_symbol, name_symbol};
 
 use c_text::{Dialect, Token, TokenKind, is_among, lookup};
 use c_tree::{BinOp, CType, IntType, vector_named};
@@ -308,15 +308,6 @@ fn statement_symbol(text: &[u8]) -> Option<Symbol>
     lookup(text, &STATEMENT_WORDS)
 }
 
-fn vector_symbol(dialect: Dialect, text: &[u8]) -> Option<Symbol>
-    ensures { result ≡ option_map vector_symbol (lookup (bytes_eq text.now) (vectors dialect)) }
-{
-    match vector_named(dialect, text) {
-        Some(ty) => Some(Symbol::Type(TypeWord::Whole(ty))),
-        None => None,
-    }
-}
-
 fn is_keyword(word: &[u8]) -> bool
     ensures { result ≡ list_any (bytes_eq word.now) keywords }
 {
@@ -329,25 +320,39 @@ fn is_later_keyword(word: &[u8]) -> bool
     is_among(word, &LATER_KEYWORDS)
 }
 
-fn name_symbol(dialect: Dialect, text: &[u8]) -> Symbol
-    ensures { result ≡ name_symbol dialect text.now }
+// What a word is that is in no table but those of keywords.
+fn last_symbol(text: &[u8]) -> Symbol
+    ensures { result ≡ last_symbol text.now }
 {
-    if let Some(symbol) = type_symbol(text) {
-        return symbol;
-    }
-    if let Some(symbol) = vector_symbol(dialect, text) {
-        return symbol;
-    }
-    if let Some(symbol) = other_symbol(text) {
-        return symbol;
-    }
-    if let Some(symbol) = statement_symbol(text) {
-        return symbol;
-    }
     if is_keyword(text) || is_later_keyword(text) {
         Symbol::Other
     } else {
         Symbol::Name
+    }
+}
+
+// What a word is that is no type's.
+fn plain_symbol(text: &[u8]) -> Symbol
+    ensures { result ≡ plain_symbol text.now }
+{
+    match other_symbol(text) {
+        Some(symbol) => symbol,
+        None => match statement_symbol(text) {
+            Some(symbol) => symbol,
+            None => last_symbol(text),
+        },
+    }
+}
+
+fn name_symbol(dialect: Dialect, text: &[u8]) -> Symbol
+    ensures { result ≡ name_symbol dialect text.now }
+{
+    match type_symbol(text) {
+        Some(symbol) => symbol,
+        None => match vector_named(dialect, text) {
+            Some(ty) => Symbol::Type(TypeWord::Whole(ty)),
+            None => plain_symbol(text),
+        },
     }
 }
 
