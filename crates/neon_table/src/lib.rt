@@ -29,13 +29,29 @@ enum Part {
     Move(MoveOp),
 }
 
+/// A row that computes, as one of the table.
+pub fn computing(row: LaneOp) -> NeonOp
+    ensures { result ≡ of_lane row }
+{
+    NeonOp {
+        row: Part::Lane(row),
+    }
+}
+
+/// A row that moves elements, loads or stores, as one of the table.
+pub fn moving(row: MoveOp) -> NeonOp
+    ensures { result ≡ of_move row }
+{
+    NeonOp {
+        row: Part::Move(row),
+    }
+}
+
 fn of_lane(found: Option<LaneOp>) -> Option<NeonOp>
     ensures { result ≡ option_map of_lane found }
 {
     match found {
-        Some(row) => Some(NeonOp {
-            row: Part::Lane(row),
-        }),
+        Some(row) => Some(computing(row)),
         None => None,
     }
 }
@@ -44,9 +60,7 @@ fn of_move(found: Option<MoveOp>) -> Option<NeonOp>
     ensures { result ≡ option_map of_move found }
 {
     match found {
-        Some(row) => Some(NeonOp {
-            row: Part::Move(row),
-        }),
+        Some(row) => Some(moving(row)),
         None => None,
     }
 }

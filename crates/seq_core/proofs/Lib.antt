@@ -1,0 +1,9 @@
+mod Gives
+mod Constants
+mod Leads
+mod RowCalls
+mod Pure
+mod Names
+mod Sizes
+mod Bodies
+mod InPlaced

@@ -1,0 +1,11 @@
+pub mod Terms
+pub mod View
+pub mod Rows
+pub mod Values
+pub mod Actions
+pub mod Formed
+pub mod Called
+pub mod Written
+pub mod Functions
+pub mod InPlace
+pub mod Claims

@@ -1,0 +1,14 @@
+//! Sequences of Neon calls: their value, what they do to memory, the rows that they call, and the C that is written for them.
+#![tactic(auto)]
+
+pub mod build;
+mod counts;
+mod laws;
+mod terms;
+
+pub use counts::calls;
+pub use laws::{
+    a_function_does_what_its_sequence_does, a_sequence_without_memory_gives_its_value,
+    a_straight_term_holds_in_place,
+};
+pub use terms::{Seq, Term};
