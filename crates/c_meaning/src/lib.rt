@@ -1,4 +1,4 @@
-//! The evaluator of typed units: what the call of a function answers and leaves.
+//! The evaluator of units: what the call of a function answers and leaves.
 #![tactic(auto)]
 
 mod beginnings;
@@ -16,4 +16,3 @@ mod values;
 
 pub use crate::unit::run;
 pub use c_memory::{Memory, Outcome, Pointer, Value, VectorTable};
-pub use vector_types::TypedUnit;

@@ -29,7 +29,6 @@ use c_tree::{Item, Unit};
 use c_values::objects::table_block;
 use c_values::rows::row_call;
 use std::alloc::{AllocError, Global};
-use vector_types::TypedUnit;
 
 /// The rows of a table.
 #[derive(Drop)]
@@ -121,26 +120,9 @@ fn begin_tables<'a>(
     Ok(Objects::from_innermost(tables))
 }
 
-/// Runs the function of that name of a typed unit with these arguments, in a memory, for at most so many turns. In the memory that is left the
+/// Runs the function of that name of a unit with these arguments, in a memory, for at most so many turns. In the memory that is left the
 /// blocks of the unit's tables follow those that were given. The only error is want of memory, and then the memory is gone.
 pub fn run<T: VectorTable>(
-    alloc: Global,
-    table: &T,
-    unit: &TypedUnit,
-    name: &[u8],
-    args: &[Value],
-    memory: Memory,
-    turns: u64,
-) -> Result<Outcome, AllocError>
-    ensures meaning { IfOk result (λ o. outcome_of o ≡ means (call_of_row (rows_of T.find_of T.signature_of T.range_of T.accesses_of T.access_of T.eval_of)) (view_unit unit.now.unit) name.now args.now memory.blocks turns) }
-    ensures ended { IfOk result (λ o. HaveEnded (length memory.blocks + length (table_blocks (view_unit unit.now.unit))) (outcome_of o)) }
-{
-    run_unit(alloc, table, unit.unit(), name, args, memory, turns)
-}
-
-/// The same of any unit: runs its function of that name, in a memory, for at most so many turns. In the memory that is left the
-/// blocks of the unit's tables follow those that were given. The only error is want of memory, and then the memory is gone.
-fn run_unit<T: VectorTable>(
     alloc: Global,
     table: &T,
     unit: &Unit,

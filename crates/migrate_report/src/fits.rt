@@ -20,7 +20,6 @@ use c_tree::{CType, Declared, Function, IntType, Item as UnitItem, Num, Unit};
 use hex::{FromHex, FromHexError};
 use std::alloc::{AllocError, AllocFailed, Global};
 use thiserror::Error;
-use vector_types::TypedUnit;
 
 /// Why the items give a function nothing.
 #[derive(Clone, Copy, Debug, PartialEq, Eq, Error)]
@@ -405,21 +404,6 @@ fn fitted(
     Ok((values, Memory { blocks }))
 }
 
-/// The same as `fit` for a tree that needs no types.
-pub fn fit_unit(
-    alloc: Global,
-    unit: &Unit,
-    name: &[u8],
-    words: &[String],
-) -> Result<(Vec<Value>, Memory), FitFail>
-    requires { IsTrue (items_fit_form (map (λ w. string_bytes w) words.now)) }
-    ensures fits { Answers (fitting (view_unit unit.now) name.now (map (λ w. string_bytes w) words.now)) result }
-    ensures memory { IfOk result (λ p. IsMemory p.1.blocks) }
-    ensures arguments { IfOk result (λ p. IfSome (function_named name.now (view_unit unit.now)) (λ f. AreArguments p.1.blocks (types_of f.params) p.0.items)) }
-{
-    fitted(alloc, unit, name, words)
-}
-
 /// The arguments in the order of the function's parameters, and the memory of the blocks, in the order of their items. The words are the items alone.
 ///
 /// # Errors
@@ -429,16 +413,16 @@ pub fn fit_unit(
 /// - `Memory` where memory ran out, in place of any other answer.
 pub fn fit(
     alloc: Global,
-    unit: &TypedUnit,
+    unit: &Unit,
     name: &[u8],
     words: &[String],
 ) -> Result<(Vec<Value>, Memory), FitFail>
     requires { IsTrue (items_fit_form (map (λ w. string_bytes w) words.now)) }
-    ensures fits { Answers (fitting (view_unit unit.now.unit) name.now (map (λ w. string_bytes w) words.now)) result }
+    ensures fits { Answers (fitting (view_unit unit.now) name.now (map (λ w. string_bytes w) words.now)) result }
 
     // What a run may be given.
     ensures memory { IfOk result (λ p. IsMemory p.1.blocks) }
-    ensures arguments { IfOk result (λ p. IfSome (function_named name.now (view_unit unit.now.unit)) (λ f. AreArguments p.1.blocks (types_of f.params) p.0.items)) }
+    ensures arguments { IfOk result (λ p. IfSome (function_named name.now (view_unit unit.now)) (λ f. AreArguments p.1.blocks (types_of f.params) p.0.items)) }
 {
-    fit_unit(alloc, unit.unit(), name, words)
+    fitted(alloc, unit, name, words)
 }

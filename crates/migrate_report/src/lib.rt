@@ -6,7 +6,7 @@ mod items;
 mod lines;
 mod texts;
 
-pub use fits::{FitFail, fit, fit_unit};
+pub use fits::{FitFail, fit};
 pub use items::{items_fit_form, number};
 pub use lines::refusal_lines;
-pub use texts::{outcome_text, outcome_text_unit};
+pub use texts::outcome_text;

@@ -11,7 +11,6 @@ use c_memory::{Block, Memory, Outcome, Pointer, Value};
 use c_tree::{Declared, Item, Unit};
 use itoa::Buffer;
 use std::alloc::{AllocError, Global};
-use vector_types::TypedUnit;
 
 /// The table with this number, counted from 0.
 fn table_with(items: &[Item], number: usize) -> Option<&Declared>
@@ -195,8 +194,11 @@ fn write_done(
     write_blocks(out, first_blocks(memory.blocks.as_slice(), blocks))
 }
 
-/// The same as `outcome_text` for a tree that needs no types.
-pub fn outcome_text_unit(
+/// The text of an outcome for a unit, where the first `blocks` blocks of the memory are those of the items and the unit's tables follow them.
+/// The only error is want of memory.
+///
+/// A pointer into a table names it, and every other one has the number of its block, also where that has ended.
+pub fn outcome_text(
     alloc: Global,
     unit: &Unit,
     blocks: usize,
@@ -211,19 +213,4 @@ pub fn outcome_text_unit(
         Outcome::Undefined => out.extend_from_slice(b"undefined\n")?,
     }
     Ok(out)
-}
-
-/// The text of an outcome for a unit, where the first `blocks` blocks of the memory are those of the items and the unit's tables follow them.
-/// The only error is want of memory.
-///
-/// A pointer into a table names it, and every other one has the number of its block, also where that has ended.
-pub fn outcome_text(
-    alloc: Global,
-    unit: &TypedUnit,
-    blocks: usize,
-    outcome: &Outcome,
-) -> Result<Vec<u8>, AllocError>
-    ensures text { IfOk result (λ text. text.items ≡ run_text (view_unit unit.now.unit) blocks (outcome_of outcome.now)) }
-{
-    outcome_text_unit(alloc, unit.unit(), blocks, outcome)
 }

@@ -29,7 +29,7 @@ fn ran(
     ensures ran { IfOk result (λ p. IsRun dialect (view_unit unit.now.unit) name.now turns (map (λ w. string_bytes w) items.now) p.1 (outcome_of p.0)) }
     ensures fails { IfErr result (λ e. Fails (view_unit unit.now.unit) name.now (map (λ w. string_bytes w) items.now) e) }
 {
-    match fit(alloc, unit, name, items) {
+    match fit(alloc, unit.unit(), name, items) {
         Ok((args, memory)) => {
             let blocks = memory.blocks.len();
             let outcome = outcome(alloc, dialect, unit, name, args.as_slice(), memory, turns)?;
@@ -98,8 +98,8 @@ fn told(
     ensures { IfOk result (λ text. text.items ≡ both_lines (run_text (view_unit source.now.unit) blocks (outcome_of first.now)) (is_defined (outcome_of first.now))
         (run_text (view_unit written.now.unit) others (outcome_of second.now))) }
 {
-    let before = outcome_text(alloc, source, blocks, first)?;
-    let after = outcome_text(alloc, written, others, second)?;
+    let before = outcome_text(alloc, source.unit(), blocks, first)?;
+    let after = outcome_text(alloc, written.unit(), others, second)?;
     both_lines(
         alloc,
         before.as_slice(),
@@ -114,7 +114,7 @@ fn fits(alloc: Global, unit: &TypedUnit, name: &[u8], items: &[String]) -> Resul
     ensures fits { IfOk result (λ p. HasFit (view_unit unit.now.unit) name.now (map (λ w. string_bytes w) items.now)) }
     ensures fails { IfErr result (λ e. Fails (view_unit unit.now.unit) name.now (map (λ w. string_bytes w) items.now) e) }
 {
-    match fit(alloc, unit, name, items) {
+    match fit(alloc, unit.unit(), name, items) {
         Ok(_) => Ok(()),
         Err(fail) => Err(fail),
     }
@@ -129,7 +129,7 @@ fn told_undefined(
 ) -> Result<Vec<u8>, AllocError>
     ensures { IfOk result (λ text. text.items ≡ both_lines (run_text (view_unit source.now.unit) blocks (outcome_of first.now)) false []) }
 {
-    let before = outcome_text(alloc, source, blocks, first)?;
+    let before = outcome_text(alloc, source.unit(), blocks, first)?;
     both_lines(alloc, before.as_slice(), false, &[])
 }
 

@@ -76,7 +76,7 @@ fn told(
     ensures status { IfOk result (λ due. status_due due ≡ status_of (outcome_of outcome.now)) }
     ensures text { IfOk result (λ due. text_due due ≡ run_text (view_unit unit.now.unit) blocks (outcome_of outcome.now)) }
 {
-    let text = outcome_text(alloc, unit, blocks, outcome)?;
+    let text = outcome_text(alloc, unit.unit(), blocks, outcome)?;
     match outcome {
         Outcome::Done(_, _) => Ok(Due::Done(text)),
         Outcome::Undefined => Ok(Due::Undefined(text)),
@@ -96,7 +96,7 @@ fn run_of(
     requires { IsTrue (items_fit_form (map (λ w. string_bytes w) items.now)) }
     ensures { IfOk result (λ due. IsDueFor (Run dialect name.now turns (map (λ w. string_bytes w) items.now)) (view_unit unit.now.unit) due) }
 {
-    match fit(alloc, unit, name, items) {
+    match fit(alloc, unit.unit(), name, items) {
         Ok((args, memory)) => {
             let blocks = memory.blocks.len();
             let outcome = outcome(alloc, dialect, unit, name, args.as_slice(), memory, turns)?;

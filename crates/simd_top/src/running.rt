@@ -27,7 +27,7 @@ pub fn outcome(
     ensures { IfOk result (λ o. outcome_of o ≡ means (rows dialect) (view_unit unit.now.unit) name.now args.now memory.blocks turns) }
 {
     match dialect {
-        Dialect::X86 => run(alloc, &X86Rows, unit, name, args, memory, turns),
-        Dialect::Neon => run(alloc, &NeonRows, unit, name, args, memory, turns),
+        Dialect::X86 => run(alloc, &X86Rows, unit.unit(), name, args, memory, turns),
+        Dialect::Neon => run(alloc, &NeonRows, unit.unit(), name, args, memory, turns),
     }
 }

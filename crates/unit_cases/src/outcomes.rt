@@ -204,7 +204,7 @@ fn answer(alloc: Global, text: &str, turns: u64) -> Result<Vec<u8>, Fail> {
             run(
                 alloc,
                 &NeonRows,
-                &unit,
+                unit.unit(),
                 b"f",
                 args.as_slice(),
                 memory,
@@ -213,7 +213,7 @@ fn answer(alloc: Global, text: &str, turns: u64) -> Result<Vec<u8>, Fail> {
         }
         None => {
             let unit = typed(alloc, text, Dialect::X86)?;
-            run(alloc, &X86Rows, &unit, b"f", args.as_slice(), memory, turns)?
+            run(alloc, &X86Rows, unit.unit(), b"f", args.as_slice(), memory, turns)?
         }
     };
     Ok(show(alloc, &outcome)?)

@@ -3,14 +3,11 @@
 ghost use Rattle.std.specs.Prelude.{IsTrue, map, string_bytes, ◌≡◌};
 
 use c_memory::{Block, BlockList, ByteList, Memory, Outcome, Pointer, Value};
-use c_text::{Dialect, Place, Refusal};
+use c_text::{Place, Refusal};
 use c_tree::{CType, Declared, Function, IntType, Item, NeonLane, Num, Pointee, Text, Unit};
-use migrate_report::{
-    FitFail, fit, fit_unit, items_fit_form, outcome_text, outcome_text_unit, refusal_lines,
-};
+use migrate_report::{FitFail, fit, items_fit_form, outcome_text, refusal_lines};
 use std::alloc::{AllocError, Global};
 use std::test::Fail;
-use vector_types::{CheckFail, TypedUnit, check};
 
 /// The words of a line, which have one space between them.
 fn words_of(alloc: Global, line: &str) -> Result<Vec<String>, AllocError> {
@@ -232,12 +229,12 @@ fn outcomes_are_texts(rt: HostRuntime) -> Result<(), Fail> {
     ];
     for (value, want) in table {
         let outcome = Outcome::Done(value, memory(alloc)?);
-        let text = outcome_text_unit(alloc, &unit, 2, &outcome)?;
+        let text = outcome_text(alloc, &unit, 2, &outcome)?;
         assert_eq!(rt; text.as_slice(), want);
     }
-    let text = outcome_text_unit(alloc, &unit, 2, &Outcome::Turns)?;
+    let text = outcome_text(alloc, &unit, 2, &Outcome::Turns)?;
     assert_eq!(rt; text.as_slice(), b"turns\n".as_slice());
-    let text = outcome_text_unit(alloc, &unit, 2, &Outcome::Undefined)?;
+    let text = outcome_text(alloc, &unit, 2, &Outcome::Undefined)?;
     assert_eq!(rt; text.as_slice(), b"undefined\n".as_slice());
     Ok(())
 }
@@ -248,7 +245,7 @@ fn answer(alloc: Global, unit: &Unit, name: &[u8], line: &str) -> Result<&'stati
     if !items_fit_form(&words) {
         return Ok("usage");
     }
-    Ok(match fit_unit(alloc, unit, name, &words) {
+    Ok(match fit(alloc, unit, name, &words) {
         Ok(_) => "fits",
         Err(FitFail::NoFunction) => "no function",
         Err(FitFail::DontFit) => "don't fit",
@@ -370,7 +367,7 @@ fn items_give_values_and_blocks(rt: HostRuntime) -> Result<(), Fail> {
     if !items_fit_form(&words) {
         return Ok(());
     }
-    match fit_unit(alloc, &unit, b"f", &words) {
+    match fit(alloc, &unit, b"f", &words) {
         Ok((values, memory)) => {
             let seven = Num {
                 ty: IntType::Short,
@@ -401,21 +398,10 @@ fn items_give_values_and_blocks(rt: HostRuntime) -> Result<(), Fail> {
     Ok(())
 }
 
-/// The function `f` of an integer, in a unit that has its types.
-fn typed(alloc: Global) -> Result<TypedUnit, Fail> {
-    let mut items = Vec::new(alloc);
-    items.push(Item::Function(function(alloc, b"f", &[CType::Int(IntType::Int)])?))?;
-    match check(alloc, &Unit { items }, Dialect::X86) {
-        Ok(unit) => Ok(unit),
-        Err(CheckFail::Refused(_)) => Err("refused")?,
-        Err(CheckFail::Memory) => Err("memory")?,
-    }
-}
-
 #[test]
-fn typed_units_are_fitted_and_shown(rt: HostRuntime) -> Result<(), Fail> {
+fn what_fits_is_shown(rt: HostRuntime) -> Result<(), Fail> {
     let alloc = rt.alloc();
-    let unit = typed(alloc)?;
+    let unit = unit(alloc, &[CType::Int(IntType::Int)])?;
     let words = words_of(alloc, "block:1:rw:80 int:-1")?;
     if !items_fit_form(&words) {
         return Err("form")?;
@@ -428,6 +414,6 @@ fn typed_units_are_fitted_and_shown(rt: HostRuntime) -> Result<(), Fail> {
         }
         Err(fail) => assert_eq!(rt; fail, FitFail::Memory),
     }
-    assert!(rt; matches!(fit(alloc, &unit, b"g", &words), Err(FitFail::NoFunction)));
+    assert!(rt; matches!(fit(alloc, &unit, b"h", &words), Err(FitFail::NoFunction)));
     Ok(())
 }

@@ -2,7 +2,7 @@ use Rattle.std.proofs.Common.{map}
 use Rattle.std.specs.Prelude.{string_bytes}
 use Rattle.c_tree.specs.View.{view_unit}
 use Rattle.migrate_report.proofs.Placed.{memory_given, arguments_given}
-use Rattle.migrate_report.proofs.fits.fit_unit.Goals as goal
+use Rattle.migrate_report.proofs.fits.fit.Goals as goal
 
 pub returns-clause-memory : goal.returns-clause-memory
 returns-clause-memory c =

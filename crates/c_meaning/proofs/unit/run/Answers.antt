@@ -2,7 +2,7 @@ use Rattle.c_tree.specs.View.{view_unit}
 use Rattle.c_memory.specs.Outcomes.{outcome_of}
 use Rattle.c_memory.specs.MeaningRows.{rows_of, call_of_row}
 use Rattle.c_meaning.proofs.Units.{run_ended}
-use Rattle.c_meaning.proofs.unit.run_unit.Goals as goal
+use Rattle.c_meaning.proofs.unit.run.Goals as goal
 
 pub returns-clause-ended : goal.returns-clause-ended
 returns-clause-ended g c =
