@@ -27,7 +27,7 @@ use Rattle.round_trip.proofs.Bits.{mark, part_bits, part_says}
 use Rattle.round_trip.proofs.Cuts.{part_cuts, semicolon_at}
 use Rattle.round_trip.proofs.Tokens.{Next, next}
 use Rattle.round_trip.proofs.ExpressionsRead.{Read, looser, part_read}
-use Rattle.round_trip.proofs.Plain.{part_plain}
+use Rattle.round_trip.proofs.Plain.{part_plain, plain_words}
 use Rattle.round_trip.proofs.SpecifiersRead.{AllAligned, AlignedTogether}
 
 -- a text has one list of tokens at most
@@ -78,7 +78,7 @@ one_alone a b ts x y =
     sym x.same ∙ ap stripped (one_expression Neon y.words x.made y.made (subst (λ w. Expression Neon w x.made) same_words x.is) y.is) ∙ y.same
 
 alone_again : (e : Tree) → Good e → (ts : List Token) × UnlimitedTokens (bits_text (alone_bits e) []) ts × (map said ts ≡ words_of (alone_bits e))
-alone_again e g = words_again (alone_bits e) (part_cuts 2 e (mark (codes ";") []) g (semicolon_at [], tt) refl) (part_plain 2 e (mark (codes ";") []) g refl)
+alone_again e g = words_again (alone_bits e) (part_cuts 2 e (mark (codes ";") []) g (semicolon_at [], tt) refl) (plain_words (alone_bits e) (part_plain 2 e (mark (codes ";") []) g refl))
 
 pub same_text : (a b : Tree) → Good a → Good b → part 2 a ≡ part 2 b → stripped a ≡ stripped b
 same_text a b ga gb e =

@@ -145,7 +145,7 @@ is_free kinds.Lone text e = absurd (cc)
 
 pub good_name : (t : Token) → IsName Neon t → WritableName t.text → GoodName t.text
 unfolding symbol_of
-good_name t is w = record { named = w.named; free = is_free t.kind t.text is }
+good_name t is w = record { named = w.named; free = is_free t.kind t.text is; no_macro = w.no_macro }
 
 good_assignment : (t : Token) (op : Option BinOp) → symbol_of Neon t ≡ symbols.Assign op → GoodAssignment op
 unfolding symbol_of

@@ -18,8 +18,9 @@ pub mod UnitSays
 pub mod UnitCuts
 pub mod Plain
 pub mod Alignments
+pub mod HeaderLines
+pub mod Expanded
 pub mod Again
 pub mod GoodSame
 pub mod GoodRead
 pub mod GoodUnitsRead
-pub mod Starts

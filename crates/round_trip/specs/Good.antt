@@ -1,7 +1,9 @@
 -- Trees that are written as they are read: what each node must be so that its text is the text of an expression again.
-use Rattle.std.specs.Prelude.{◌≡◌, ℕ, ◌<◌, List, [], true, false, Option, Some}
+use Rattle.std.specs.Prelude.{◌≡◌, ℕ, ◌<◌, List, [], true, false, bytes_eq, Option, Some}
+use Rattle.std.specs.List.{list_any}
 use Rattle.c_text.specs.declared.tokens.Dialect.TheVariants.{Neon}
 use Rattle.c_text.specs.Forms.{is_name}
+use Rattle.c_text.specs.PredefinedNames.{predefined_names}
 use Rattle.lane_core.specs.declared.number.BinOp.{BinOp}
 use Rattle.lane_core.specs.declared.number.BinOp.TheVariants as ops
 use Rattle.lane_core.specs.declared.number.IntType.{IntType}
@@ -16,10 +18,11 @@ use Rattle.c_print.specs.Constants.{sign_text}
 use Rattle.c_parse.specs.declared.symbols.Symbol.TheVariants as symbols
 use Rattle.c_parse.specs.Symbols.{name_symbol}
 
--- a name that is no keyword and no type's
+-- a name that is no keyword and no type's, and no macro's before a text begins
 pub record GoodName (x : List ℕ) : Type 0 where
   pub named : is_name x ≡ true
   pub free : name_symbol Neon x ≡ symbols.Name
+  pub no_macro : list_any (λ m. bytes_eq x m.name) (predefined_names Neon) ≡ false
 
 -- the types that an integer constant can have (C11 6.4.4.1p5)
 abbrev pub IsConstantType : IntType → Type 0

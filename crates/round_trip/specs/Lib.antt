@@ -2,6 +2,5 @@ pub mod Words
 pub mod Good
 pub mod Unlimited
 pub mod GoodUnits
-pub mod Headers
 pub mod Printable
 pub mod Again

@@ -1,9 +1,13 @@
 -- A text as words with white space between them, and when it is cut back into these.
-use Rattle.std.specs.Prelude.{◌≡◌, ℕ, List, [], ◌∷◌, ◌++◌, length, Bool, true, false, not, ◌&&◌, ◌||◌, ◌==◌, codes}
+use Rattle.std.specs.Prelude.{◌≡◌, ℕ, List, [], ◌∷◌, ◌++◌, length, Bool, true, false, not, ◌&&◌, ◌||◌, ◌==◌, bytes_eq, codes}
+use Rattle.std.specs.List.{list_any}
+use Rattle.c_text.specs.declared.tokens.Dialect.TheVariants.{Neon}
 use Rattle.c_text.specs.declared.tokens.TokenKind.{TokenKind}
+use Rattle.c_text.specs.declared.tokens.TokenKind.TheVariants.{Name, Mark}
 use Rattle.c_text.specs.declared.tokens.Token.{Token}
 use Rattle.c_text.specs.declared.pieces.Sort.{Sort}
 use Rattle.c_text.specs.declared.pieces.Sort.TheVariants.{Lexeme, Blank, LineEnd}
+use Rattle.c_text.specs.PredefinedNames.{predefined_names}
 use Rattle.c_text.specs.Forms.{is_within, is_one_of, all_are, starts, is_digit, is_name_byte, goes_on, is_mark_pair, is_mark_triple}
 use Rattle.c_text.specs.Reading.{piece_at}
 use Rattle.c_text.specs.Tokens.{is_white, first_behind}
@@ -72,6 +76,24 @@ is_plain_bit b = is_plain_sort b.sort && (is_plain_byte b.first && all_are is_pl
 abbrev pub all_plain : List Bit → Bool
 all_plain [] = true
 all_plain (b ∷ bs) = is_plain_bit b && all_plain bs
+
+-- no directive begins with a token of this kind with these bytes, and it isn't the name of a macro before a text begins (C11 6.10p2, 6.10.3p10)
+abbrev pub is_free_word : TokenKind → List ℕ → Bool
+is_free_word Name text = not (list_any (λ m. bytes_eq text m.name) (predefined_names Neon))
+is_free_word Mark text = not (bytes_eq text (codes "#"))
+is_free_word _ text = true
+
+abbrev pub is_free_sort : Sort → List ℕ → Bool
+is_free_sort (Lexeme kind) text = is_free_word kind text
+is_free_sort _ text = true
+
+-- a plain one that directives and macros leave as it is
+abbrev pub is_written_bit : Bit → Bool
+is_written_bit b = is_plain_bit b && is_free_sort b.sort (bit_text b)
+
+abbrev pub all_written : List Bit → Bool
+all_written [] = true
+all_written (b ∷ bs) = is_written_bit b && all_written bs
 
 -- the tokens among these: what they are, and their bytes
 abbrev pub word_of : Sort → List ℕ → List (TokenKind × List ℕ)

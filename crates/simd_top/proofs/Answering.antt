@@ -24,20 +24,25 @@ use Rattle.simd_top.specs.TopCall.{Calls, IsAnswer}
 use Rattle.simd_top.specs.Words.{Command, Migrate, Run, Both, dialect_of}
 use Rattle.simd_top.specs.Written.{moved_unit}
 use Rattle.c_print.specs.Text.{text_of}
+use Rattle.round_trip.specs.Again.{ReadAgain}
+use Rattle.round_trip.specs.GoodUnits.{GoodUnit}
 use Rattle.simd_top.proofs.Same.{migrated}
 
-text_calls : (c : Command) (source : List ℕ) (t : List External) (s : Status) (text : List ℕ) → HasUnit (dialect_of c) source t → IsTextOf c t s text → Calls c source s text
-text_calls Migrate source t s text has (ended, form, told) = (ended, migrated source text t has form told)
-text_calls (Run dialect name turns items) source t s text has (args, memory, fits, ended, told) =
-    record { unit = t; has_unit = has; args = args; memory = memory; fits = fits; told = told; ended = ended }
-text_calls (Both name turns items) source t s text has (form, typed_unit, typed, compared) =
-    record { unit = t; written_unit = moved_unit t; typed_unit = typed_unit; has_unit = has; is_migrated = migrated source (text_of (moved_unit t)) t has form refl; typed = typed; compared = compared }
+abbrev ReadsAgain : Type 0
+ReadsAgain = (unit : List External) → GoodUnit unit → ReadAgain unit
 
-pub due_answers : (c : Command) (source : List ℕ) (t : List External) (d : Due) → length source ≤ source_limit (dialect_of c) → HasUnit (dialect_of c) source t → IsDueFor c t d → IsAnswer c source d
-due_answers c source t (due.Done text) within has is = text_calls c source t status.Done text.items has is
-due_answers c source t (due.Undefined text) within has is = text_calls c source t status.Undefined text.items has is
-due_answers c source t (due.Turns text) within has is = text_calls c source t status.Turns text.items has is
-due_answers c source t (due.Report lines) within has (r, is, told) = Beyond within t has r is told
+text_calls : ReadsAgain → (c : Command) (source : List ℕ) (t : List External) (s : Status) (text : List ℕ) → HasUnit (dialect_of c) source t → IsTextOf c t s text → Calls c source s text
+text_calls read_again Migrate source t s text has (ended, form, told) = (ended, migrated read_again source text t has form told)
+text_calls read_again (Run dialect name turns items) source t s text has (args, memory, fits, ended, told) =
+    record { unit = t; has_unit = has; args = args; memory = memory; fits = fits; told = told; ended = ended }
+text_calls read_again (Both name turns items) source t s text has (form, typed_unit, typed, compared) =
+    record { unit = t; written_unit = moved_unit t; typed_unit = typed_unit; has_unit = has; is_migrated = migrated read_again source (text_of (moved_unit t)) t has form refl; typed = typed; compared = compared }
+
+pub due_answers : ReadsAgain → (c : Command) (source : List ℕ) (t : List External) (d : Due) → length source ≤ source_limit (dialect_of c) → HasUnit (dialect_of c) source t → IsDueFor c t d → IsAnswer c source d
+due_answers read_again c source t (due.Done text) within has is = text_calls read_again c source t status.Done text.items has is
+due_answers read_again c source t (due.Undefined text) within has is = text_calls read_again c source t status.Undefined text.items has is
+due_answers read_again c source t (due.Turns text) within has is = text_calls read_again c source t status.Turns text.items has is
+due_answers read_again c source t (due.Report lines) within has (r, is, told) = Beyond within t has r is told
 
 no_refusal : (o : Outcome) → status.Refused ≡ status_of o → ⊥
 no_refusal (outcomes.Done v memory) e = absurd (cc)

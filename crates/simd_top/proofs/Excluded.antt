@@ -5,14 +5,15 @@ use Rattle.c_text.specs.declared.tokens.Token.{Token}
 use Rattle.c_text.specs.declared.refusals.Refusal.{Refusal as CodeRefusal}
 use Rattle.c_text.specs.Tokens.{Tokens, FirstFault, first_of}
 use Rattle.c_text.proofs.Cuts.{one_token_list, tokens_read, fault_read}
+use Rattle.c_directives.specs.Directives.{expansion}
+use Rattle.c_preproc.specs.Scan.{first_refusal}
 use Rattle.c_parse.specs.Limits.{first_past}
 use Rattle.c_parse.proofs.ItemsRead.{one_unit}
 use Rattle.c_tree.specs.Tree.{External}
 use Rattle.migrate_report.specs.Fits.{Fitting, NoFunction, DontFit, Fit, fitting}
 use Rattle.vector_types.specs.Units.{check_unit}
-use Rattle.simd_top.specs.Includes.{behind_includes, first_hash}
 use Rattle.simd_top.specs.Form.{first_outside}
-use Rattle.simd_top.specs.Source.{AreUnit, AreRefused, Directive, Scanned, Parsed, IsParsed, IsUnparsed, Lexed, Behind, HasUnit, AreFirst, Alone, Checked}
+use Rattle.simd_top.specs.Source.{HasTokens, AreUnit, AreRefused, Scanned, Parsed, IsParsed, IsUnparsed, Lexed, Expanded, Behind, HasUnit, AreFirst, Alone, Checked}
 use Rattle.simd_top.specs.Refusals.{IsRefusedUnit, Outside, Nameless, Unfit, OutsideBoth, NamelessBoth, UnfitBoth, IsRefused, TooLong, First, Beyond, Serves, IsAdmitted}
 use Rattle.simd_top.specs.TopCall.{Admits, Refuses, IsServed}
 use Rattle.simd_top.specs.Words.{Command, Migrate, Run, Both, dialect_of, asked}
@@ -26,28 +27,34 @@ no_fault source ts r t f =
     let some = fault_read source r f in
     let nothing : first_of [] ≡ Some r = rw clean at some in cc
 
-behind : (x : Dialect) (ts : List Token) (u : List External) (r : CodeRefusal) → AreUnit x ts u → AreRefused x ts r → ⊥
-behind x ts u r is (Directive t h e) = apart (first_hash (behind_includes x ts)) t is.no_directive h
-behind x ts u r is (Scanned h s) = apart _ r is.scanned s
-behind x ts u r is (Parsed h s (inl none)) = none.none u is.is_unit
-behind x ts u r is (Parsed h s (inr many)) =
-    apart (first_past 0 u) many.function is.within (ap (first_past 0) (one_unit x (behind_includes x ts) u many.unit is.is_unit many.is) ∙ many.first)
-
-unparsed : (x : Dialect) (source : List ℕ) (u : List External) (r : CodeRefusal) → IsParsed x source u → IsUnparsed x source r → ⊥
-unparsed x source u r has (Lexed f) = no_fault source has.tokens r has.lexed f
-unparsed x source u r has (Behind ts t refused) =
-    behind x has.tokens u r has.behind (subst (λ y. AreRefused x y r) (one_token_list source ts has.tokens t has.lexed) refused)
-
-one_parse : (x : Dialect) (source : List ℕ) (u v : List External) → IsParsed x source u → IsParsed x source v → u ≡ v
-one_parse x source u v a b =
-    let other : AreUnit x a.tokens v = subst (λ ts. AreUnit x ts v) (one_token_list source b.tokens a.tokens b.lexed a.lexed) b.behind in
-    one_unit x (behind_includes x a.tokens) u v a.behind.is_unit other.is_unit
+no_refusal : (x : Dialect) (left : List Token) (u : List External) (r : CodeRefusal) → AreUnit x left u → AreRefused x left r → ⊥
+no_refusal x left u r is (Scanned s) = apart (first_refusal x left) r is.scanned s
+no_refusal x left u r is (Parsed s (inl none)) = none.none u is.is_unit
+no_refusal x left u r is (Parsed s (inr many)) =
+    apart (first_past 0 u) many.function is.within (ap (first_past 0) (one_unit x left u many.unit is.is_unit many.is) ∙ many.first)
 
 same_value : {A E : Type 0} (r : Result A E) (a b : A) → r ≡ Ok a → r ≡ Ok b → a ≡ b
 same_value r a b h k = cc
 
 no_value : {A E : Type 0} (r : Result A E) (a : A) (e : E) → r ≡ Ok a → r ≡ Err e → ⊥
 no_value r a e h k = cc
+
+-- the tokens that are left are determined
+expands : (x : Dialect) (source : List ℕ) (ts left : List Token) → HasTokens x source left → Tokens source ts → expansion x ts ≡ Ok left
+expands x source ts left has t = ap (expansion x) (one_token_list source ts has.tokens t has.lexed) ∙ has.expanded
+
+one_expansion : (x : Dialect) (source : List ℕ) (left other : List Token) → HasTokens x source left → HasTokens x source other → other ≡ left
+one_expansion x source left other has also = same_value (expansion x has.tokens) other left (expands x source has.tokens other also has.lexed) has.expanded
+
+unparsed : (x : Dialect) (source : List ℕ) (u : List External) (r : CodeRefusal) → IsParsed x source u → IsUnparsed x source r → ⊥
+unparsed x source u r is (Lexed f) = no_fault source is.has.tokens r is.has.lexed f
+unparsed x source u r is (Expanded ts t e) = no_value (expansion x ts) is.left r (expands x source ts is.left is.has t) e
+unparsed x source u r is (Behind left has refused) = no_refusal x is.left u r is.are_unit (subst (λ y. AreRefused x y r) (one_expansion x source is.left left is.has has) refused)
+
+one_parse : (x : Dialect) (source : List ℕ) (u v : List External) → IsParsed x source u → IsParsed x source v → u ≡ v
+one_parse x source u v a b =
+    let other : AreUnit x a.left v = subst (λ ts. AreUnit x ts v) (one_expansion x source a.left b.left a.has b.has) b.are_unit in
+    one_unit x a.left u v a.are_unit.is_unit other.is_unit
 
 one_typed : (x : Dialect) (source : List ℕ) (t w : List External) → HasUnit x source t → HasUnit x source w → t ≡ w
 one_typed x source t w a b =

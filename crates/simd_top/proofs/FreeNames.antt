@@ -39,6 +39,11 @@ no_neon_row x free =
     let c = neither (begins || is_some (neon_table.find_of x)) (is_vector_type x) b.0 in
     (neither begins (is_some (neon_table.find_of x)) c.0).1
 
+pub no_neon_macro : (x : List ℕ) → is_free x ≡ true → is_predefined Neon x ≡ false
+no_neon_macro x free =
+    let begins = starts_with nat_eq x (codes "mg_") || starts_with nat_eq x (codes "_mm") || starts_with nat_eq x (codes "__builtin_") in
+    (neither (begins || is_some (neon_table.find_of x) || is_vector_type x || is_predefined X86 x) (is_predefined Neon x) (not_reserved x free)).1
+
 intel_reserved : (op : FormRow) → is_reserved X86 (is_neon_row (intel_name op)) (intel_name op) ≡ true
 intel_reserved AddEpi8 = refl
 intel_reserved SubEpi8 = refl

@@ -21,6 +21,7 @@ use Rattle.simd_top.specs.Rows.{intel_row}
 use Rattle.simd_top.specs.Form.{is_in, is_plain_name, is_free, is_expression, is_kind, are_expressions, are_two, is_register, is_plain, is_parameter, are_parameters, names_of, returns, returns_option, is_body, has_one, is_heading, is_function, is_item, item_name, first_outside}
 use Rattle.simd_top.specs.Written.{moved_type, moved_call, moved_tree, moved_kind, moved_trees, moved_object, moved_statement, moved_statements, moved_function, moved_item, moved_unit}
 use Rattle.simd_top.proofs.Conjunction.{split_and}
+use Rattle.simd_top.proofs.FreeNames.{no_neon_macro}
 use Rattle.simd_top.proofs.Headings.{item_passes}
 
 plain_is : (s : Symbol) → is_plain_name s ≡ true → s ≡ symbols.Name
@@ -42,7 +43,7 @@ good_name : (x : List ℕ) → is_free x ≡ true → GoodName x
 good_name x h =
     let a = split_and (is_name x && is_plain_name (name_symbol Neon x)) (not (is_reserved X86 (is_neon_row x) x)) h in
     let b = split_and (is_name x) (is_plain_name (name_symbol Neon x)) a.0 in
-    record { named = b.0; free = plain_is (name_symbol Neon x) b.1 }
+    record { named = b.0; free = plain_is (name_symbol Neon x) b.1; no_macro = no_neon_macro x h }
 
 abbrev AllGood : List (List ℕ) → Type 0
 AllGood [] = Unit {0}
@@ -58,11 +59,11 @@ good_among (y ∷ ys) x h e = go (same_name x y) refl (λ k. good_among ys x h.1
 
 good_call : (f : List ℕ) (o : Option FormRow) → is_some o ≡ true → GoodName (moved_call f o)
 good_call f None h = absurd (cc)
-good_call f (Some AddEpi8) h = record { named = refl; free = refl }
-good_call f (Some SubEpi8) h = record { named = refl; free = refl }
-good_call f (Some AvgEpu8) h = record { named = refl; free = refl }
-good_call f (Some MinEpu8) h = record { named = refl; free = refl }
-good_call f (Some XorSi128) h = record { named = refl; free = refl }
+good_call f (Some AddEpi8) h = record { named = refl; free = refl; no_macro = refl }
+good_call f (Some SubEpi8) h = record { named = refl; free = refl; no_macro = refl }
+good_call f (Some AvgEpu8) h = record { named = refl; free = refl; no_macro = refl }
+good_call f (Some MinEpu8) h = record { named = refl; free = refl; no_macro = refl }
+good_call f (Some XorSi128) h = record { named = refl; free = refl; no_macro = refl }
 
 mutual
   good_tree : (names : List (List ℕ)) (t : Tree) → AllGood names → is_expression names t ≡ true → Good (moved_tree t)

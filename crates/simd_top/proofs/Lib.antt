@@ -9,8 +9,6 @@ mod FirstRun
 mod FreeNames
 mod Good
 mod Headings
-mod IncludesRead
-mod Lines
 mod Moved
 mod NamesSeen
 mod Numbered

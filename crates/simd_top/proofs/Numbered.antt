@@ -1,7 +1,8 @@
 -- Refusals have numbers from 1 to 22.
 use Rattle.std.proofs.Common.{◌≡◌, ℕ, ◌≤◌, List, [], ◌∷◌, ◌++◌, length, drop, Bool, true, false, cond, not, Option, Some, None, refl, subst, arith, inl, inr}
-use Rattle.std.specs.Prelude.{nat_lt, nat_le, codes}
+use Rattle.std.specs.Prelude.{nat_lt, nat_le, codes, ◌==◌, ◌||◌}
 use Rattle.std.proofs.lemmas.Bool.Decides.{nat_tests}
+use Rattle.std.proofs.lemmas.Bool.{eqb-true}
 use Rattle.c_text.specs.declared.tokens.Dialect.{Dialect}
 use Rattle.c_text.specs.declared.tokens.Place.{Place}
 use Rattle.c_text.specs.declared.tokens.Token.{Token}
@@ -15,6 +16,12 @@ use Rattle.c_text.specs.declared.refusals.Refusal.{Refusal}
 use Rattle.c_text.specs.Tokens.{Piece, bytes_in, bad_bytes, bad_byte, long_name, long_names, faults_in, faults_of, first_of, FirstFault}
 use Rattle.c_tree.specs.Tree.{External}
 use Rattle.c_constants.specs.Constant.{is_c_token}
+use Rattle.c_macros.specs.Expansion as macros
+use Rattle.c_macros.specs.Numbers.{is_macro_number}
+use Rattle.c_directives.specs.Definitions.{bad_directive}
+use Rattle.c_directives.specs.Headers.{unknown_header}
+use Rattle.c_directives.specs.Directives.{open_condition}
+use Rattle.c_directives.specs.Numbers.{is_expansion_number, ExpansionNumbers}
 use Rattle.c_preproc.specs.ExcludedWord.{is_excluded}
 use Rattle.c_preproc.specs.Role.{next_role}
 use Rattle.c_preproc.specs.Nesting.{contexts_behind, is_too_deep, limits_of}
@@ -22,8 +29,7 @@ use Rattle.c_preproc.specs.Scan.{bad_token, outside_profile, too_deep, refusal_a
 use Rattle.c_text.specs.Details.{refusal_of}
 use Rattle.c_parse.specs.Limits.{syntax_at, end_place, too_many, Refused}
 use Rattle.simd_top.specs.Form.{is_item, item_name, first_outside, outside}
-use Rattle.simd_top.specs.Includes.{behind_includes}
-use Rattle.simd_top.specs.Source.{AreRefused, Directive, Scanned, Parsed, IsUnparsed, Lexed, Behind, AreFirst, Alone, Checked}
+use Rattle.simd_top.specs.Source.{AreRefused, Scanned, Parsed, IsUnparsed, Lexed, Expanded, Behind, AreFirst, Alone, Checked}
 use Rattle.simd_top.specs.Refusals.{at_the_start, IsRefusedUnit, Outside, Nameless, Unfit, OutsideBoth, NamelessBoth, UnfitBoth, IsRefused, TooLong, First, Beyond, AreNumbered, AreLines}
 use Rattle.simd_top.specs.TopCall.{Refuses}
 use Rattle.simd_top.specs.Words.{Command, dialect_of}
@@ -126,18 +132,38 @@ parsed_known : (x : Dialect) (ts : List Token) (r : Refusal) → Refused x ts r 
 parsed_known x ts r (inl none) = same_known r (syntax_at (end_place ts) (drop none.before ts)) none.shows (syntax_known (end_place ts) (drop none.before ts))
 parsed_known x ts r (inr many) = same_known r (too_many many.function) many.shows refl
 
-tokens_known : (x : Dialect) (ts : List Token) (r : Refusal) → AreRefused x ts r → is_known r.number ≡ true
-tokens_known x ts r (Directive t h e) = same_known r (refusal_of 9 t) e refl
-tokens_known x ts r (Scanned h e) = of_some (first_refusal x (behind_includes x ts)) r (scanned_known x (behind_includes x ts)) e
-tokens_known x ts r (Parsed h s refused) = parsed_known x (behind_includes x ts) r refused
+tokens_known : (x : Dialect) (left : List Token) (r : Refusal) → AreRefused x left r → is_known r.number ≡ true
+tokens_known x left r (Scanned e) = of_some (first_refusal x left) r (scanned_known x left) e
+tokens_known x left r (Parsed s refused) = parsed_known x left r refused
 
-unparsed_known : (x : Dialect) (source : List ℕ) (r : Refusal) → IsUnparsed x source r → is_known r.number ≡ true
-unparsed_known x source r (Lexed f) = lexed_known source r f
-unparsed_known x source r (Behind ts t refused) = tokens_known x ts r refused
+-- ---- the expansion
 
-first_list : (x : Dialect) (source : List ℕ) (list : List Refusal) → AreFirst x source list → AllKnown list
-first_list x source list (Alone r is e) = rw e (unparsed_known x source r is, tt)
-first_list x source list (Checked u is e) = unit_known x u list e
+among : (n m : ℕ) (rest : Bool) → is_known m ≡ true → (rest ≡ true → is_known n ≡ true) → ((n == m) || rest) ≡ true → is_known n ≡ true
+among n m rest k other h = go (n == m) refl h
+  where
+    go : (v : Bool) → (n == m) ≡ v → (v || rest) ≡ true → is_known n ≡ true
+    go true e h = rw (eqb-true n m e) k
+    go false e h = other h
+
+macros_known : (n : ℕ) → is_macro_number n ≡ true → is_known n ≡ true
+macros_known n h = among n macros.bad_macro _ refl (among n macros.too_deep _ refl (λ e. rw (eqb-true n macros.too_many e) refl)) h
+
+expansion_known : (n : ℕ) → is_expansion_number n ≡ true → is_known n ≡ true
+expansion_known n h = go (is_macro_number n) refl h
+  where
+    go : (v : Bool) → is_macro_number n ≡ v → (v || (n == bad_directive || (n == unknown_header || n == open_condition))) ≡ true → is_known n ≡ true
+    go true e h = macros_known n e
+    go false e h = among n bad_directive _ refl (among n unknown_header _ refl (λ e. rw (eqb-true n open_condition e) refl)) h
+
+module _ (law : ExpansionNumbers) where
+  unparsed_known : (x : Dialect) (source : List ℕ) (r : Refusal) → IsUnparsed x source r → is_known r.number ≡ true
+  unparsed_known x source r (Lexed f) = lexed_known source r f
+  unparsed_known x source r (Expanded ts t e) = expansion_known r.number (law x ts r e)
+  unparsed_known x source r (Behind left has refused) = tokens_known x left r refused
+
+  first_list : (x : Dialect) (source : List ℕ) (list : List Refusal) → AreFirst x source list → AllKnown list
+  first_list x source list (Alone r is e) = rw e (unparsed_known x source r is, tt)
+  first_list x source list (Checked u is e) = unit_known x u list e
 
 outside_known : (seen : List (List ℕ)) (us : List External) → MaybeKnown (first_outside seen us)
 outside_known seen [] = tt
@@ -162,11 +188,11 @@ numbered : (list : List Refusal) → AllKnown list → AreNumbered list
 numbered [] h = tt
 numbered (r ∷ rest) h = let range = in_range r.number h.0 in (range.0, range.1, numbered rest h.1)
 
-lines_numbered : (c : Command) (source lines : List ℕ) → IsRefused c source lines → AreLines lines
-lines_numbered c source lines (TooLong long is) = (at_the_start 1 (codes "source") ∷ [], is, numbered (at_the_start 1 (codes "source") ∷ []) (refl, tt))
-lines_numbered c source lines (First within list first is) = (list, is, numbered list (first_list (dialect_of c) source list first))
-lines_numbered c source lines (Beyond within unit has r refused is) = (r ∷ [], is, numbered (r ∷ []) (beyond_known c unit r refused, tt))
+lines_numbered : ExpansionNumbers → (c : Command) (source lines : List ℕ) → IsRefused c source lines → AreLines lines
+lines_numbered law c source lines (TooLong long is) = (at_the_start 1 (codes "source") ∷ [], is, numbered (at_the_start 1 (codes "source") ∷ []) (refl, tt))
+lines_numbered law c source lines (First within list first is) = (list, is, numbered list (first_list law (dialect_of c) source list first))
+lines_numbered law c source lines (Beyond within unit has r refused is) = (r ∷ [], is, numbered (r ∷ []) (beyond_known c unit r refused, tt))
 
-pub refuses_lines : (c : Command) (before : Option (List ℕ)) (lines : List ℕ) → Refuses c before lines → AreLines lines
-refuses_lines c None lines (source, is) = lines_numbered c source lines is
-refuses_lines c (Some source) lines is = lines_numbered c source lines is
+pub refuses_lines : ExpansionNumbers → (c : Command) (before : Option (List ℕ)) (lines : List ℕ) → Refuses c before lines → AreLines lines
+refuses_lines law c None lines (source, is) = lines_numbered law c source lines is
+refuses_lines law c (Some source) lines is = lines_numbered law c source lines is

@@ -1,12 +1,13 @@
 -- Why sources are refused.
-use Rattle.std.proofs.Common.{◌≡◌, ℕ, List, Some, None, Result, Ok, Err, IfOk, IfErr, sym, ◌∙◌, ap, subst}
+use Rattle.std.proofs.Common.{◌≡◌, ℕ, List, None, Result, Ok, Err, IfOk, IfErr, sym, ◌∙◌, ap, subst}
 use Rattle.c_text.specs.declared.tokens.Dialect.{Dialect}
 use Rattle.c_text.specs.declared.tokens.Token.{Token}
 use Rattle.c_text.specs.declared.refusals.Fail.{Fail}
 use Rattle.c_text.specs.declared.refusals.Fail.TheVariants as fails
 use Rattle.c_text.specs.Tokens.{Tokens}
+use Rattle.c_directives.specs.Directives.{expansion}
 use Rattle.c_preproc.specs.Scan.{first_refusal}
-use Rattle.c_text.specs.Details.{IfRefused, refusal_of}
+use Rattle.c_text.specs.Details.{IfRefused}
 use Rattle.c_parse.specs.Limits.{Refused}
 use Rattle.c_tree.specs.Tree.{External}
 use Rattle.c_tree.specs.View.{view_unit}
@@ -15,27 +16,26 @@ use Rattle.vector_types.specs.declared.units.CheckFail.{CheckFail}
 use Rattle.vector_types.specs.declared.units.CheckFail.TheVariants as many
 use Rattle.vector_types.specs.Answers as lists
 use Rattle.vector_types.specs.Units.{check_unit}
-use Rattle.simd_top.specs.Includes.{behind_includes, first_hash}
 use Rattle.simd_top.specs.Seen.{IsAlone}
-use Rattle.simd_top.specs.Source.{AreRefused, Directive, Parsed, IsParsed, IsUnparsed, Behind, HasUnit, AreFirst, Alone, Checked}
+use Rattle.simd_top.specs.Source.{HasTokens, AreRefused, Parsed, IsParsed, IsUnparsed, Expanded, Behind, HasUnit, AreFirst, Alone, Checked}
 
-pub directive_refused : (x : Dialect) (e : Fail) (ts rest : List Token) (t : Token) → rest ≡ behind_includes x ts → Some t ≡ first_hash rest → IfRefused e (λ r. r ≡ refusal_of 9 t) →
-    IfRefused e (AreRefused x ts)
-directive_refused x (fails.Refused r) ts rest t same found is = Directive t (ap first_hash (sym same) ∙ sym found) is
-directive_refused x fails.Memory ts rest t same found is = tt
+pub parse_refused : {A : Type 0} (x : Dialect) (res : Result A Fail) (left : List Token) → first_refusal x left ≡ None → IfErr res (λ e. IfRefused e (Refused x left)) →
+    IfErr res (λ e. IfRefused e (AreRefused x left))
+parse_refused x (Ok a) left scanned h = tt
+parse_refused x (Err fails.Memory) left scanned h = tt
+parse_refused x (Err (fails.Refused r)) left scanned h = Parsed scanned h
 
-pub parse_refused : {A : Type 0} (x : Dialect) (res : Result A Fail) (ts rest : List Token) → rest ≡ behind_includes x ts → first_hash (behind_includes x ts) ≡ None →
-    first_refusal x rest ≡ None → IfErr res (λ e. IfRefused e (Refused x rest)) → IfErr res (λ e. IfRefused e (AreRefused x ts))
-parse_refused x (Ok a) ts rest same hash scanned h = tt
-parse_refused x (Err fails.Memory) ts rest same hash scanned h = tt
-parse_refused x (Err (fails.Refused r)) ts rest same hash scanned h =
-    Parsed hash (ap (first_refusal x) (sym same) ∙ scanned) (subst (λ y. Refused x y r) same h)
+pub expansion_refused : {A : Type 0} (x : Dialect) (res : Result A Fail) (source : List ℕ) (ts seen : List Token) → Tokens source ts → seen ≡ ts →
+    IfErr res (λ e. IfRefused e (λ r. expansion x seen ≡ Err r)) → IfErr res (λ e. IfRefused e (IsUnparsed x source))
+expansion_refused x (Ok a) source ts seen found same h = tt
+expansion_refused x (Err fails.Memory) source ts seen found same h = tt
+expansion_refused x (Err (fails.Refused r)) source ts seen found same h = Expanded ts found (ap (expansion x) (sym same) ∙ h)
 
-pub behind_refused : {A : Type 0} (x : Dialect) (res : Result A Fail) (source : List ℕ) (ts seen : List Token) → Tokens source ts → seen ≡ ts →
+pub behind_refused : {A : Type 0} (x : Dialect) (res : Result A Fail) (source : List ℕ) (left seen : List Token) → HasTokens x source left → seen ≡ left →
     IfErr res (λ e. IfRefused e (AreRefused x seen)) → IfErr res (λ e. IfRefused e (IsUnparsed x source))
-behind_refused x (Ok a) source ts seen found same h = tt
-behind_refused x (Err fails.Memory) source ts seen found same h = tt
-behind_refused x (Err (fails.Refused r)) source ts seen found same h = Behind ts found (subst (λ y. AreRefused x y r) same h)
+behind_refused x (Ok a) source left seen has same h = tt
+behind_refused x (Err fails.Memory) source left seen has same h = tt
+behind_refused x (Err (fails.Refused r)) source left seen has same h = Behind left has (subst (λ y. AreRefused x y r) same h)
 
 pub typed : (x : Dialect) (res : Result TypedUnit CheckFail) (source : List ℕ) (u : List External) → IsParsed x source u → IfOk res (λ v. check_unit x u ≡ Ok (view_unit v.unit)) →
     IfOk res (λ v. HasUnit x source (view_unit v.unit))

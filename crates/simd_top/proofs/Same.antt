@@ -8,7 +8,8 @@ use Rattle.simd_top.specs.declared.rows.FormRow.{FormRow}
 use Rattle.c_tree.specs.Tree.{Definition, External, Function, Table}
 use Rattle.c_tree.specs.Same.{stripped_definition, stripped_external, Same}
 use Rattle.c_print.specs.Text.{text_of}
-use Rattle.round_trip.proofs.Again.{text_again}
+use Rattle.round_trip.specs.Again.{ReadAgain}
+use Rattle.round_trip.specs.GoodUnits.{GoodUnit}
 use Rattle.scopes.specs.Scopes.{Callee, named}
 use Rattle.vector_types.specs.Functions.{heading_of as function_heading, with_function as with_heading, with_items, is_before, check_function}
 use Rattle.vector_types.specs.Units.{check_items, answer, check_unit}
@@ -29,7 +30,6 @@ use Rattle.simd_top.specs.Written.{moved_function, moved_unit}
 use Rattle.simd_top.proofs.Conjunction.{split_and}
 use Rattle.simd_top.proofs.Values.{named as row_named, intel_call, neon_call}
 use Rattle.simd_top.proofs.Good.{good_unit}
-use Rattle.simd_top.proofs.IncludesRead.{read_back}
 use Rattle.simd_top.proofs.FreeNames.{other_than_intel, other_than_neon}
 use Rattle.simd_top.proofs.Headings.{item_passes, result_and_name, heading_of}
 use Rattle.simd_top.proofs.Expressions.{DoRows, HasNoRow}
@@ -230,9 +230,9 @@ is_read us ws h same =
       does_the_same = does_the_same us r.items r.all r.no_blocks r.no_blocks_read r.no_objects r.no_objects_read;
     }
 
-pub migrated : (source text : List ℕ) (u : List External) → HasUnit X86 source u → first_outside [] u ≡ None → text ≡ text_of (moved_unit u) → Migrated source text
-migrated source text u has form is =
-    let again = read_back (moved_unit u) (text_again (moved_unit u) (good_unit [] u form)) in
+pub migrated : ((unit : List External) → GoodUnit unit → ReadAgain unit) → (source text : List ℕ) (u : List External) → HasUnit X86 source u → first_outside [] u ≡ None → text ≡ text_of (moved_unit u) → Migrated source text
+migrated read_again source text u has form is =
+    let again = read_again (moved_unit u) (good_unit [] u form) in
     let r = is_read u again.again form again.same in
     record {
       unit = u;

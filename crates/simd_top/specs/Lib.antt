@@ -1,5 +1,4 @@
 pub mod Codes
-pub mod Includes
 pub mod Words
 pub mod Rows
 pub mod Form
@@ -9,7 +8,6 @@ pub mod Source
 pub mod Refusals
 pub mod Ran
 pub mod Compared
-pub mod ReadBack
 pub mod Migrated
 pub mod Due
 pub mod TopCall

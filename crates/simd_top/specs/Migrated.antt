@@ -7,10 +7,10 @@ use Rattle.c_tree.specs.Tree.{External}
 use Rattle.c_memory.specs.Matching.{written_type}
 use Rattle.c_memory.specs.Meaning.{functions}
 use Rattle.c_memory.specs.Written.{UnitsMatch, DoesTheSame}
+use Rattle.round_trip.specs.Again.{ReadAgain}
 use Rattle.vector_types.specs.Units.{check_unit}
 use Rattle.simd_top.specs.Form.{names_of}
 use Rattle.simd_top.specs.Ran.{rows}
-use Rattle.simd_top.specs.ReadBack.{ReadBack}
 use Rattle.simd_top.specs.Source.{HasUnit}
 
 -- the names of each function's parameters
@@ -25,7 +25,7 @@ pub record Migrated (source written : List ℕ) : Type 0 where
   pub typed_unit : List External
   pub has_unit : HasUnit X86 source unit
   pub is_text : written ≡ text_of written_unit
-  pub again : ReadBack written_unit
+  pub again : ReadAgain written_unit
   pub typed : check_unit Neon again.again ≡ Ok typed_unit
   pub same_unit : Same typed_unit written_unit
   pub same : UnitsMatch written_type unit typed_unit

@@ -1,44 +1,37 @@
 //! From the bytes of a source to its unit with types, or its refusals.
 
-ghost use Rattle.std.specs.Prelude.{◌≡◌, ◌<◌, ◌≤◌, ◌^◌, length, IfOk, IfErr, Some, None, [], ◌∷◌};
-ghost use Rattle.c_preproc.specs.Scan.{first_refusal};
+ghost use Rattle.std.specs.Prelude.{◌≡◌, ◌<◌, ◌≤◌, ◌^◌, length, IfOk, IfErr, [], ◌∷◌};
 ghost use Rattle.c_text.specs.Details.{IfRefused};
 ghost use Rattle.c_tree.specs.View.{view_unit};
 ghost use Rattle.vector_types.specs.Answers.{IfRefused as IfListRefused};
-ghost use Rattle.simd_top.specs.Includes.{behind_includes, first_hash};
 ghost use Rattle.simd_top.specs.Seen.{IsAlone};
-ghost use Rattle.simd_top.specs.Source.{source_limit, AreUnit, AreRefused, IsParsed, IsUnparsed, HasUnit, AreFirst};
+ghost use Rattle.simd_top.specs.Source.{source_limit, HasTokens, AreUnit, AreRefused, IsParsed, IsUnparsed, HasUnit, AreFirst};
 
-use crate::includes::{behind_includes, first_hash};
 use c_parse::parse;
-use c_preproc::scan;
-use c_text::{Dialect, Fail, Refusal, Token, lex, refuse_token};
+use c_preproc::{expand, scan};
+use c_text::{Dialect, Fail, Refusal, Token, lex};
 use c_tree::Unit;
 use std::alloc::{AllocError, Global};
 use vector_types::{CheckFail, TypedUnit, check};
 
-// What is left of the tokens behind their include lines, which have no directive.
-fn past_includes(alloc: Global, dialect: Dialect, tokens: &[Token]) -> Result<&[Token], Fail>
-    ensures rest { IfOk result (λ rest. rest.now ≡ behind_includes dialect tokens.now) }
-    ensures ok { IfOk result (λ rest. first_hash (behind_includes dialect tokens.now) ≡ None) }
-    ensures refused { IfErr result (λ e. IfRefused e (AreRefused dialect tokens.now)) }
+// The tokens that the directives and macros of a source leave.
+fn left_of(alloc: Global, dialect: Dialect, source: &[u8]) -> Result<Vec<Token>, Fail>
+    requires { length source.now ≤ source_limit dialect }
+    ensures left { IfOk result (λ left. HasTokens dialect source.now left.items) }
+    ensures refused { IfErr result (λ e. IfRefused e (IsUnparsed dialect source.now)) }
 {
-    let rest = behind_includes(dialect, tokens);
-    match first_hash(rest) {
-        Some(token) => Err(refuse_token(alloc, 9, token)),
-        None => Ok(rest),
-    }
+    let tokens = lex(alloc, source)?;
+    expand(alloc, tokens.as_slice(), dialect)
 }
 
-// The unit of tokens behind their include lines.
+// The unit of expanded tokens.
 #[tactic(auto, using(crate::proofs::Refused::parse_refused))]
-fn parsed(alloc: Global, dialect: Dialect, tokens: &[Token]) -> Result<Unit, Fail>
-    ensures unit { IfOk result (λ u. AreUnit dialect tokens.now (view_unit u)) }
-    ensures refused { IfErr result (λ e. IfRefused e (AreRefused dialect tokens.now)) }
+fn parsed(alloc: Global, dialect: Dialect, left: &[Token]) -> Result<Unit, Fail>
+    ensures unit { IfOk result (λ u. AreUnit dialect left.now (view_unit u)) }
+    ensures refused { IfErr result (λ e. IfRefused e (AreRefused dialect left.now)) }
 {
-    let rest = past_includes(alloc, dialect, tokens)?;
-    scan(alloc, rest, dialect)?;
-    parse(alloc, rest, dialect)
+    scan(alloc, left, dialect)?;
+    parse(alloc, left, dialect)
 }
 
 // The unit of a source, whose types aren't judged yet.
@@ -47,8 +40,8 @@ fn read(alloc: Global, dialect: Dialect, source: &[u8]) -> Result<Unit, Fail>
     ensures unit { IfOk result (λ u. IsParsed dialect source.now (view_unit u)) }
     ensures refused { IfErr result (λ e. IfRefused e (IsUnparsed dialect source.now)) }
 {
-    let tokens = lex(alloc, source)?;
-    parsed(alloc, dialect, tokens.as_slice())
+    let left = left_of(alloc, dialect, source)?;
+    parsed(alloc, dialect, left.as_slice())
 }
 
 fn one(alloc: Global, refusal: Refusal) -> Result<Vec<Refusal>, AllocError>

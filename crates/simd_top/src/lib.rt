@@ -8,7 +8,6 @@ mod comparing;
 mod due;
 mod form;
 mod front;
-mod includes;
 mod moving;
 mod names;
 mod refusals;

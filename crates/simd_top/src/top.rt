@@ -12,9 +12,11 @@ use crate::front::unit_of;
 use crate::refusals::line_at_the_start;
 use crate::status::Status;
 use crate::words::{Command, asked};
+use c_directives::expansion_numbers;
 use c_text::Dialect;
 use mig_io::{ReadFail, Sink, Source, read_all, write_all};
 use migrate_report::refusal_lines;
+use round_trip::good_units_are_read_again;
 use std::alloc::Global;
 use vector_types::CheckFail;
 
@@ -39,6 +41,7 @@ fn answer(alloc: Global, command: Command<'_>, source: &[u8]) -> Result<Due, Rea
     ensures due { IfOk result (λ due. IsAnswer (command_of command.entry) source.now due) }
     ensures memory_alone { OnErr result (result ≡ Err ReadFail.Memory) }
 {
+    good_units_are_read_again();
     match unit_of(alloc, command.dialect(), source) {
         Ok(unit) => {
             let due = due_for(alloc, command, &unit)?;
@@ -130,6 +133,7 @@ pub fn simdmove<S: Source, O: Sink, E: Sink>(
     // An admitted unit isn't refused: without faults it is migrated, or its function runs, unless memory runs out.
     ensures admitted { IsServed (map (λ w. string_bytes w) words.now) (S.left source.old) → result ≢ Status.Refused }
 {
+    expansion_numbers();
     match asked(words) {
         None => finish(report, USAGE, Status::Usage),
         Some(command) => match made_of(alloc, command, source) {

@@ -55,7 +55,7 @@ fn migrated(alloc: Global, source: &[u8]) -> Result<Ended, AllocError> {
 }
 
 // Sources and what comes: the text behind the include lines, or the line of the report.
-const ROWS: [(&[u8], Status, &[u8]); 26] = [
+const ROWS: [(&[u8], Status, &[u8]); 30] = [
     (b"", Status::Done, b""),
     (b" \t\n", Status::Done, b""),
     (b"#include <emmintrin.h>", Status::Done, b""),
@@ -87,19 +87,43 @@ const ROWS: [(&[u8], Status, &[u8]); 26] = [
     (
         b"#include <math.h>\n",
         Status::Refused,
-        b"1:1: 9 Syntax #\n",
+        b"1:10: 6 UnknownHeader <math.h>\n",
     ),
     (
         b"#include < stdint.h>\n",
         Status::Refused,
-        b"1:1: 9 Syntax #\n",
+        b"1:10: 6 UnknownHeader < stdint.h>\n",
     ),
     (
         b"#include <stdint.h> 1.5\n",
         Status::Refused,
-        b"1:1: 9 Syntax #\n",
+        b"1:2: 5 BadDirective include\n",
     ),
-    (b"1.5\n#define A 1\n", Status::Refused, b"2:1: 9 Syntax #\n"),
+    (
+        b"1.5\n#define 1\n",
+        Status::Refused,
+        b"2:2: 5 BadDirective define\n",
+    ),
+    (
+        b"#define P(x, y) x + y\n#define Q P(1,\nint f(void) { return Q 2); }\n",
+        Status::Refused,
+        b"3:22: 7 BadMacro P\n",
+    ),
+    (
+        b"int a; # b\n#if 1\n",
+        Status::Refused,
+        b"2:2: 8 OpenCondition if\n",
+    ),
+    (
+        b"int f(void) { return 0; } # b\n",
+        Status::Refused,
+        b"1:27: 9 Syntax #\n",
+    ),
+    (
+        b"#ifndef F_H\n#define F_H\n#include <emmintrin.h>\n#if defined(__AVX2__) && !defined(X)\n#define ADD(x, y) \\\n    _mm_add_epi8((x), \\\n        (y))\n#endif\n__m128i f(__m128i a) { return ADD(a, ADD(a, a)); }\n#endif\n",
+        Status::Done,
+        b"\nuint8x16_t f(uint8x16_t a) {\n    return vaddq_u8(a, vaddq_u8(a, a));\n}\n",
+    ),
     (
         b"int f(void) { return 1.5; }\n",
         Status::Refused,
@@ -192,7 +216,13 @@ const TABLE: &[u8] =
 const LOAD: &[u8] = b"__m128i f(const __m128i *p) { return _mm_loadu_si128(p); }\n";
 
 // Words for a run, the source, and what comes.
-const RUNS: [(&[&str], &[u8], Status, &[u8]); 23] = [
+// Units of directives and macros: guards, conditions on predefined names, a macro of several lines.
+const UNITS: [&[u8]; 2] = [
+    b"#ifndef UNIT_H\n#define UNIT_H\n#pragma once\n#include <immintrin.h>\n#if defined(__AVX2__) && !defined(NARROW)\n#define LANES 32\n#elif defined(__SSE2__)\n#define LANES 16\n#endif\n#define ADD_TWICE(sum, x) do { \\\n    (sum) += (x); \\\n    (sum) += (x); \\\n} while (0)\nstatic int f(int x) { return x * LANES; }\nint g(int x) {\n    int s = _MM_SHUFFLE(0, 0, 0, 2);\n    for (int i = 0; i <= x; i++)\n        ADD_TWICE(s, i);\n    return s;\n}\n#endif\n",
+    b"#include <arm_neon.h>\n#if defined(__ARM_NEON) && !defined(__AVX2__)\n#define TWO 2\n#endif\nint f(void) { bool b = true; return b ? TWO : 1; }\n",
+];
+
+const RUNS: [(&[&str], &[u8], Status, &[u8]); 26] = [
     (
         &["run", "x86", "f", "5"],
         LOOP,
@@ -255,13 +285,31 @@ const RUNS: [(&[&str], &[u8], Status, &[u8]); 23] = [
         ],
         ADD,
         Status::Refused,
-        b"1:1: 9 Syntax #\n",
+        b"1:10: 6 UnknownHeader <emmintrin.h>\n",
     ),
     (
         &["run", "x86", "f", "0"],
         b"#include <arm_neon.h>\n",
         Status::Refused,
-        b"1:1: 9 Syntax #\n",
+        b"1:10: 6 UnknownHeader <arm_neon.h>\n",
+    ),
+    (
+        &["run", "x86", "f", "0", "int:5"],
+        UNITS[0],
+        Status::Done,
+        b"value int 160\n",
+    ),
+    (
+        &["run", "x86", "g", "9", "int:3"],
+        UNITS[0],
+        Status::Done,
+        b"value int 14\n",
+    ),
+    (
+        &["run", "neon", "f", "0"],
+        UNITS[1],
+        Status::Done,
+        b"value int 2\n",
     ),
     (
         &["run", "x86", "g", "0", "space:1:3", "at:0:1"],
