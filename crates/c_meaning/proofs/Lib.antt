@@ -1,4 +1,5 @@
 pub mod Stacks
+pub mod Shared
 pub mod Callees
 pub mod Turns
 pub mod Same

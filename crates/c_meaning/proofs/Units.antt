@@ -16,10 +16,11 @@ use Rattle.c_memory.specs.MeaningState.{InBlock}
 use Rattle.c_memory.specs.Meaning.{Calls, outcome, means, functions, table_block, table_blocks, table_objects}
 use Rattle.c_meaning.specs.declared.calls.Callee.{Callee}
 use Rattle.c_meaning.specs.declared.objects.Binding.{Binding}
-use Rattle.c_meaning.specs.Seen.{seen_binding}
+use Rattle.c_meaning.specs.Bindings.{seen_binding}
 use Rattle.c_meaning.specs.Flagged.{Flagged, outermost}
 use Rattle.c_meaning.specs.Callees.{seen_callee}
 use Rattle.c_meaning.specs.Marked.{marked}
+use Rattle.c_meaning.specs.States.{at_start}
 use Rattle.c_meaning.specs.Ended.{HaveEnded}
 use Rattle.c_meaning.proofs.Same.{outermost_same}
 use Rattle.c_meaning.proofs.Ends.{means_ended}
@@ -77,24 +78,23 @@ tables_in_scope whole out n h = sym (append-nil (map seen_binding out)) ∙ h
 
 -- ---- the whole run
 
-abbrev pub begun : List Block → List External → ℕ → state.State
-begun memory unit turns = record { objects = []; memory = memory ++ table_blocks unit; left = turns }
+pub starts : (rows : Calls) (name : List ℕ) (args : List Value) (memory : List Block) (turns : ℕ) (tables kept here : List state.Binding) (callees fs : List Flagged) (r : Result CodeOutcome AllocError) →
+    IfOk r (λ o. outcome_of o ≡ outcome (outermost tables rows callees name args (record { objects = here; memory = memory; left = turns }))) →
+    here ≡ [] → callees ≡ fs → tables ≡ kept → IfOk r (λ o. outcome_of o ≡ outcome (outermost kept rows fs name args (at_start memory turns)))
+starts rows name args memory turns tables kept here callees fs (Ok o) h none known over =
+    h ∙ ap (λ l. outcome (outermost tables rows callees name args (record { objects = l; memory = memory; left = turns }))) none
+    ∙ ap (λ t. outcome (outermost t rows callees name args (at_start memory turns))) over
+    ∙ ap (λ l. outcome (outermost kept rows l name args (at_start memory turns))) known
+starts rows name args memory turns tables kept here callees fs (Err e) h none known over = tt
 
-means_from : (rows : Calls) (unit : List External) (name : List ℕ) (args : List Value) (memory blocks : List Block) (turns : ℕ) (tables here : List state.Binding) (callees : List Flagged) →
-    here ≡ [] → callees ≡ map marked (functions unit) → tables ≡ table_objects (length memory) unit → blocks ≡ memory ++ table_blocks unit →
-    outcome (outermost tables rows callees name args (record { objects = here; memory = blocks; left = turns })) ≡ means rows unit name args memory turns
-means_from rows unit name args memory blocks turns tables here callees none fs ts bs =
-    ap (λ l. outcome (outermost tables rows callees name args (record { objects = l; memory = blocks; left = turns }))) none
-    ∙ ap (λ m. outcome (outermost tables rows callees name args (record { objects = []; memory = m; left = turns }))) bs
-    ∙ ap (λ t. outcome (outermost t rows callees name args (begun memory unit turns))) ts
-    ∙ ap (λ l. outcome (outermost (table_objects (length memory) unit) rows l name args (begun memory unit turns))) fs
-    ∙ ap (λ p. outcome (p (begun memory unit turns))) (outermost_same (table_objects (length memory) unit) rows (functions unit) name args)
-
-pub run_means : (rows : Calls) (unit : List External) (name : List ℕ) (args : List Value) (memory blocks : List Block) (turns : ℕ) (tables here : List state.Binding) (callees : List Flagged) (r : Result CodeOutcome AllocError) →
-    IfOk r (λ o. outcome_of o ≡ outcome (outermost tables rows callees name args (record { objects = here; memory = blocks; left = turns }))) →
-    here ≡ [] → callees ≡ map marked (functions unit) → tables ≡ table_objects (length memory) unit → blocks ≡ memory ++ table_blocks unit → IfOk r (λ o. outcome_of o ≡ means rows unit name args memory turns)
-run_means rows unit name args memory blocks turns tables here callees (Ok o) h none fs ts bs = h ∙ means_from rows unit name args memory blocks turns tables here callees none fs ts bs
-run_means rows unit name args memory blocks turns tables here callees (Err e) h none fs ts bs = tt
+pub run_means : (rows : Calls) (unit : List External) (name : List ℕ) (args : List Value) (memory blocks : List Block) (turns : ℕ) (tables : List state.Binding) (r : Result CodeOutcome AllocError) →
+    IfOk r (λ o. outcome_of o ≡ outcome (outermost tables rows (map marked (functions unit)) name args (at_start blocks turns))) →
+    tables ≡ table_objects (length memory) unit → blocks ≡ memory ++ table_blocks unit → IfOk r (λ o. outcome_of o ≡ means rows unit name args memory turns)
+run_means rows unit name args memory blocks turns tables (Ok o) h ts bs =
+    h ∙ ap (λ m. outcome (outermost tables rows (map marked (functions unit)) name args (at_start m turns))) bs
+    ∙ ap (λ t. outcome (outermost t rows (map marked (functions unit)) name args (at_start (memory ++ table_blocks unit) turns))) ts
+    ∙ ap (λ p. outcome (p (at_start (memory ++ table_blocks unit) turns))) (outermost_same (table_objects (length memory) unit) rows (functions unit) name args)
+run_means rows unit name args memory blocks turns tables (Err e) h ts bs = tt
 
 pub run_ended : (rows : Calls) (unit : List External) (name : List ℕ) (args : List Value) (memory : List Block) (turns : ℕ) (o : Outcome) → o ≡ means rows unit name args memory turns → HaveEnded (length memory + length (table_blocks unit)) o
 run_ended rows unit name args memory turns o e = subst (HaveEnded (length memory + length (table_blocks unit))) (sym e) (means_ended rows unit name args memory turns)

@@ -1,3 +1,4 @@
+pub mod Bindings
 pub mod Seen
 pub mod States
 pub mod Answers

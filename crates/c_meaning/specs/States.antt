@@ -1,5 +1,6 @@
 -- What contracts see of a run's state and of what an assignment sets.
-use Rattle.std.specs.Prelude.{ℕ, ◌-◌, length, drop}
+use Rattle.std.specs.Prelude.{ℕ, ◌-◌, List, [], length, drop}
+use Rattle.c_memory.specs.declared.blocks.Block.{Block}
 use Rattle.c_memory.specs.Memory.{ended_from}
 use Rattle.c_memory.specs.MeaningState as state
 use Rattle.c_memory.specs.MeaningObjects as object
@@ -10,6 +11,10 @@ use Rattle.c_meaning.specs.declared.state.Target.TheVariants.{Named, HalfNamed, 
 
 abbrev pub seen_state : State → state.State
 seen_state s = record { objects = seen_objects s.objects; memory = s.memory.blocks; left = s.left }
+
+-- before a call from outside
+abbrev pub at_start : List Block → ℕ → state.State
+at_start memory turns = record { objects = []; memory = memory; left = turns }
 
 abbrev pub seen_target : Target → object.Target
 seen_target (Named name) = object.Named name.now

@@ -6,7 +6,7 @@ ghost use Rattle.c_tree.specs.Types.{is_array};
 ghost use Rattle.c_memory.specs.Meaning.{Calls, begin_object, first_value, initialised};
 ghost use Rattle.c_memory.specs.Meaning as meaning;
 ghost use Rattle.c_memory.specs.MeaningObjects.{is_const};
-ghost use Rattle.c_meaning.specs.Seen.{seen_binding};
+ghost use Rattle.c_meaning.specs.Bindings.{seen_binding};
 ghost use Rattle.c_meaning.specs.States.{seen_state};
 ghost use Rattle.c_meaning.specs.Answers.{Answers};
 ghost use Rattle.c_meaning.specs.Callees.{seen_flow};
@@ -82,7 +82,7 @@ impl<'a> State<'a> {
             }
             Location::Apart(_) | Location::Halves(_, _) => {
                 self.objects
-                    .relocate(binding.name, Location::Apart(Some(v)));
+                    .relocate(binding.name, Location::Apart(Some(v)))?;
                 Ok(())
             }
         }

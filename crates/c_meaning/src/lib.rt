@@ -2,15 +2,18 @@
 #![tactic(auto)]
 
 mod beginnings;
+mod called;
 mod calls;
 mod evaluation;
 mod flags;
+mod found;
 mod functions;
 mod names;
 mod objects;
 mod places;
 mod rows;
 mod state;
+mod tables;
 mod unit;
 mod values;
 

@@ -4,7 +4,7 @@ ghost use Rattle.std.specs.Prelude.{◌≡◌, ◌+◌, IfOk, IfErr};
 ghost use Rattle.c_memory.specs.MeaningState.{object_of, spend};
 ghost use Rattle.c_memory.specs.MeaningObjects.{value_named, half_named, read_target, set_target, target_of};
 ghost use Rattle.c_memory.specs.Meaning.{spend_for, is_helper};
-ghost use Rattle.c_meaning.specs.Seen.{seen_binding};
+ghost use Rattle.c_meaning.specs.Bindings.{seen_binding};
 ghost use Rattle.c_meaning.specs.States.{seen_state, seen_target, left_at};
 ghost use Rattle.c_meaning.specs.Answers.{Answers, Shows};
 
@@ -15,7 +15,7 @@ use c_values::objects::{load, store};
 use std::alloc::AllocError;
 
 /// What a run has at each moment.
-#[derive(Debug, Drop)]
+#[derive(Drop)]
 pub struct State<'a> {
     /// The objects in scope.
     pub objects: Objects<'a>,
@@ -146,14 +146,14 @@ impl<'a> State<'a> {
     {
         match target {
             Target::Named(name) => {
-                self.objects.relocate(name, Location::Apart(Some(v)));
+                self.objects.relocate(name, Location::Apart(Some(v)))?;
                 Ok(())
             }
             Target::HalfNamed(name, k) => {
                 let Value::R16(half) = v else {
                     return Err(Stop::Undefined);
                 };
-                self.objects.set_half(name, k, half);
+                self.objects.set_half(name, k, half)?;
                 Ok(())
             }
             Target::There(at) => store(&mut self.memory, ty, at, v).ok_or(Stop::Undefined),

@@ -8,55 +8,29 @@ ghost use Rattle.c_memory.specs.MeaningRows.{rows_of, call_of_row};
 ghost use Rattle.c_memory.specs.MeaningState.{Out};
 ghost use Rattle.c_memory.specs.declared.value.Value.{Value as SeenValue};
 ghost use Rattle.c_meaning.specs.Answers.{Answers};
-ghost use Rattle.c_meaning.specs.Seen.{seen_objects};
+ghost use Rattle.c_meaning.specs.Seen.{seen_objects, seen_tables};
 ghost use Rattle.c_meaning.specs.Callees.{seen_callee};
 ghost use Rattle.c_meaning.specs.Indexed.{IsIndexed};
 ghost use Rattle.c_meaning.specs.Marked.{marked};
 ghost use Rattle.c_meaning.specs.Flagged.{outermost};
-ghost use Rattle.c_meaning.specs.States.{seen_state};
+ghost use Rattle.c_meaning.specs.States.{seen_state, at_start};
 ghost use Rattle.c_meaning.specs.Ended.{HaveEnded};
 
+use crate::called::called_names;
 use crate::calls::{Callee, Environment, first_called};
 use crate::evaluation::enter;
+use crate::found::TableRows;
 use crate::functions::{Callees, push};
 use crate::objects::{Binding, Location, Objects};
 use crate::places::Places;
 use crate::rows::Rows;
 use crate::state::{ROOM, State, Stop};
+use crate::tables::Tables;
 use address_taken::address_taken;
 use c_memory::{BlockList, Memory, Outcome, Value, VectorTable};
 use c_tree::{Item, Unit};
 use c_values::objects::table_block;
-use c_values::rows::row_call;
 use std::alloc::{AllocError, Global};
-
-/// The rows of a table.
-#[derive(Drop)]
-struct TableRows<'t, T> {
-    table: &'t T,
-}
-
-impl<'t, T: VectorTable> Rows for TableRows<'t, T> {
-    ghost row_call = { call_of_row (rows_of T.find_of T.signature_of T.range_of T.accesses_of T.access_of T.eval_of) };
-
-    // Its arrays of arguments aren't to stand in the frames of the recursion.
-    #[inline(never)]
-    fn call<'a>(
-        &self,
-        alloc: Global,
-        state: &mut State<'a>,
-        name: &[u8],
-        values: &[Value],
-    ) -> Result<Option<Value>, Stop> {
-        match self.table.find(name) {
-            None => Err(Stop::Undefined),
-            Some(op) => {
-                let given = row_call(alloc, self.table, op, &mut state.memory, values)?;
-                given.ok_or(Stop::Undefined)
-            }
-        }
-    }
-}
 
 /// One more item behind these functions, with whether the addresses of its objects are taken if it is a function.
 #[tactic(auto, using(crate::proofs::Units::nothing_more))]
@@ -97,9 +71,9 @@ fn begin_tables<'a>(
     alloc: Global,
     blocks: &mut BlockList,
     items: &'a [Item],
-) -> Result<Objects<'a>, AllocError>
+) -> Result<Tables<'a>, AllocError>
     ensures blocks { OnOk result (blocks.new ≡ blocks.old ++ table_blocks (map view_item items.now)) }
-    ensures objects { IfOk result (λ o. seen_objects o ≡ table_objects (length blocks.old) (map view_item items.now)) }
+    ensures objects { IfOk result (λ t. seen_tables t ≡ table_objects (length blocks.old) (map view_item items.now)) }
 {
     let mut tables = Vec::new(alloc);
     for item in items {
@@ -117,7 +91,7 @@ fn begin_tables<'a>(
             }
         }
     }
-    Ok(Objects::from_innermost(tables))
+    Tables::from_innermost(alloc, tables)
 }
 
 /// Runs the function of that name of a unit with these arguments, in a memory, for at most so many turns. In the memory that is left the
@@ -151,18 +125,35 @@ fn begun<T: VectorTable>(
     ensures { IfOk result (λ o. outcome_of o ≡ means (call_of_row (rows_of T.find_of T.signature_of T.range_of T.accesses_of T.access_of T.eval_of)) (view_unit unit.now) name.now args.now memory.blocks turns) }
 {
     let items = unit.items.as_slice();
-    let callees = callees_of(alloc, items)?;
     let mut memory = memory;
     let tables = begin_tables(alloc, &mut memory.blocks, items)?;
-    let rows = TableRows { table };
+    run_over(alloc, table, items, &tables, name, args, memory, turns)
+}
+
+/// The same of the functions of these items, over tables whose blocks are in the memory.
+fn run_over<'t, 'a, T: VectorTable>(
+    alloc: Global,
+    table: &T,
+    items: &'t [Item],
+    tables: &'t Tables<'a>,
+    name: &[u8],
+    args: &[Value],
+    memory: Memory,
+    turns: u64,
+) -> Result<Outcome, AllocError>
+    ensures { IfOk result (λ o. outcome_of o ≡ outcome (outermost (seen_tables tables.now) (call_of_row (rows_of T.find_of T.signature_of T.range_of T.accesses_of T.access_of T.eval_of)) (map marked (functions (map view_item items.now))) name.now args.now (at_start memory.blocks turns))) }
+{
+    let callees = callees_of(alloc, items)?;
+    let names = called_names(alloc, items)?;
+    let rows = TableRows::new(alloc, table, &callees.places, names.as_slice())?;
     let env = Environment {
         alloc,
         rows: &rows,
-        tables,
+        tables: Objects::over(alloc, tables),
         callees,
     };
     let state = State {
-        objects: Objects::new(alloc),
+        objects: Objects::new(alloc, tables),
         memory,
         left: turns,
     };

@@ -5,7 +5,7 @@ ghost use Rattle.std.specs.Option.{option_and_then};
 ghost use Rattle.c_memory.specs.Meaning.{give, object_value, array_value, there, address, cast_to, assigned, assigned_by, step, half_target, half_of, pair_of, size_value, element};
 ghost use Rattle.c_memory.specs.MeaningState.{defined, object_of, then_do};
 ghost use Rattle.c_memory.specs.MeaningValues.{converted_value};
-ghost use Rattle.c_meaning.specs.Seen.{seen_binding, seen_location};
+ghost use Rattle.c_meaning.specs.Bindings.{seen_binding, seen_location};
 ghost use Rattle.c_meaning.specs.States.{seen_state, seen_target};
 ghost use Rattle.c_meaning.specs.Answers.{Answers, Shows};
 

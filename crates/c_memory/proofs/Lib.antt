@@ -1,5 +1,6 @@
 pub mod Bytes
 pub mod Ends
+pub mod Living
 pub mod Definedness
 pub mod Examples
 pub mod Continued

@@ -1,9 +1,10 @@
 //! Blocks and their bytes.
 
-ghost use Rattle.std.specs.Prelude.{◌≡◌, ◌+◌, ◌≤◌, [], ◌∷◌, ◌++◌, length, map, OnOk, Some, is_some, slice_get};
+ghost use Rattle.std.specs.Prelude.{◌≡◌, ◌+◌, ◌<◌, ◌≤◌, if◌then◌else◌, nat_lt, true, ℕ, [], ◌∷◌, ◌++◌, length, map, reverse, OnOk, IfSome, IfNone, Some, is_some, slice_get};
 ghost use Rattle.std.specs.Option.{unwrap_or};
 ghost use Rattle.std.specs.List.{list_all};
-ghost use Rattle.c_memory.specs.Memory.{after_write, ended, ended_from, reaches, set_bytes, read_in, written_in, overwritten};
+ghost use Rattle.c_memory.specs.Memory.{after_write, ended, ended_from, reaches, set_bytes, read_in, written_in, overwritten, refilled};
+ghost use Rattle.c_memory.specs.Living.{fall, AreEnded};
 ghost use Rattle.c_memory.specs.declared.memory.Pointer.TheVariants.{At};
 ghost use Rattle.c_memory.specs.Defined.{IsAlignment, Leaves};
 
@@ -41,15 +42,22 @@ pub struct Block {
 #[derive(Debug, Drop)]
 pub struct BlockList {
     blocks: Vec<Block>,
+    /// From this number on, a block whose number isn't in `living` has ended.
+    first: usize,
+    /// The numbers of blocks that have begun and not ended, in order.
+    living: Vec<usize>,
 }
 
 impl Model for BlockList {
-    ghost use Rattle.std.specs.Prelude.{List};
+    ghost use Rattle.std.specs.Prelude.{◌≡◌, true, List, length, reverse};
     ghost use Rattle.c_memory.specs.declared.blocks.Block.{Block};
+    ghost use Rattle.c_memory.specs.Living.{fall, AreEnded};
 
     ghost Value = { List Block };
 
     ghost view = { λ l. l.blocks.items };
+
+    ghost invariant = { λ l. (fall (length l.blocks.items) (reverse l.living.items) ≡ true) × AreEnded l.first (reverse l.living.items) l.blocks.items };
 }
 
 impl ByteList {
@@ -131,6 +139,60 @@ fn end_all(blocks: &mut [Block])
     }
 }
 
+/// From which number on it is noted which of `count` blocks live, where that was `first` before this one gets new bytes.
+fn noted_from(block: &Block, first: usize, count: usize) -> usize
+    ensures { result ≡ (if block.now.alive then first else count) }
+{
+    if block.alive { first } else { count }
+}
+
+/// Takes the last number away, where it is at least `start`.
+fn pop_from(living: &mut Vec<usize>, start: usize) -> Option<usize>
+    ensures popped { IfSome result (λ k. (start ≤ k) × (reverse living.old.items ≡ k ∷ reverse living.new.items)) }
+    ensures below { (n : ℕ) → fall n (reverse living.old.items) ≡ true → IfNone result (fall start (reverse living.new.items) ≡ true) }
+    ensures same { IfNone result (living.new.items ≡ living.old.items) }
+    ensures shorter { IfSome result (λ _. length living.new.items < length living.old.items) }
+{
+    match living.last() {
+        Some(k) if *k >= start => living.pop(),
+        _ => None,
+    }
+}
+
+/// Ends the blocks of these numbers from `start` on, and takes the numbers away.
+fn end_living(blocks: &mut [Block], living: &mut Vec<usize>, start: usize)
+    requires { fall (length blocks.old) (reverse living.old.items) ≡ true }
+    ensures fall { fall (length blocks.new) (reverse living.new.items) ≡ true }
+    ensures below { fall start (reverse living.new.items) ≡ true }
+    ensures rest { (first : ℕ) → AreEnded first (reverse living.old.items) blocks.old → AreEnded first (reverse living.new.items) blocks.new }
+    ensures ended { ended_from start blocks.new ≡ ended_from start blocks.old }
+{
+    while let Some(k) = pop_from(living, start) {
+        blocks[k].end();
+    }
+}
+
+/// Ends blocks from `start` on, where it is below `first`.
+fn end_unnoted(blocks: &mut [Block], first: usize, start: usize)
+    ensures { blocks.new ≡ (if nat_lt start first then ended_from start blocks.old else blocks.old) }
+{
+    if start < first && start < blocks.len() {
+        end_all(&mut blocks[start..]);
+    }
+}
+
+/// Ends all blocks from `start` on. Of those from `first` on the ones in `living` alone haven't ended.
+fn end_behind(blocks: &mut [Block], living: &mut Vec<usize>, first: usize, start: usize)
+    requires fall { fall (length blocks.old) (reverse living.old.items) ≡ true }
+    requires rest { AreEnded first (reverse living.old.items) blocks.old }
+    ensures fall { fall (length blocks.new) (reverse living.new.items) ≡ true }
+    ensures rest { AreEnded first (reverse living.new.items) blocks.new }
+    ensures ended { blocks.new ≡ ended_from start blocks.old }
+{
+    end_living(blocks, living, start);
+    end_unnoted(blocks, first, start);
+}
+
 impl Block {
     /// Ends the block: it lives no more, and it has no bytes and no room for any.
     pub fn end(&mut self)
@@ -180,7 +242,13 @@ impl BlockList {
     pub fn new(blocks: Vec<Block>) -> BlockList
         ensures { result ≡ blocks.items }
     {
-        BlockList { blocks }
+        let first = blocks.len();
+        let living = Vec::new(*blocks.allocator());
+        BlockList {
+            blocks,
+            first,
+            living,
+        }
     }
 
     /// The blocks as a slice.
@@ -208,17 +276,31 @@ impl BlockList {
     pub fn push(&mut self, block: Block) -> Result<(), AllocError>
         ensures { OnOk result (self.new ≡ self.old ++ (block ∷ [])) }
     {
+        let number = self.blocks.len();
         self.blocks.push(block)?;
+        if let Err(fail) = self.living.push(number) {
+            self.first = self.blocks.len();
+            return Err(fail.into());
+        }
         Ok(())
     }
 
-    /// Ends all blocks from a number on.
+    /// Ends all blocks from a number on. Those that began here cost nothing once they have ended.
     pub fn end_from(&mut self, start: usize)
         ensures { self.new ≡ ended_from start self.old }
     {
-        if start < self.blocks.len() {
-            end_all(&mut self.blocks[start..]);
+        end_behind(self.blocks.as_mut_slice(), &mut self.living, self.first, start);
+    }
+
+    /// The bytes of the block of that number become these, also where the block isn't written otherwise.
+    pub fn refill(&mut self, block: usize, bytes: Vec<Option<u8>>)
+        ensures { self.new ≡ refilled block bytes.items self.old }
+    {
+        if block >= self.blocks.len() {
+            return;
         }
+        self.first = noted_from(&self.blocks[block], self.first, self.blocks.len());
+        self.blocks[block].bytes = ByteList::new(bytes);
     }
 
     /// Reads from a block, where there is one of that number.

@@ -1,25 +1,12 @@
 -- Blocks whose bytes become others.
-use Rattle.std.proofs.Common.{◌≡◌, ℕ, zero, suc, ◌-◌, ◌<◌, ◌≤◌, List, [], ◌∷◌, ◌++◌, length, map, replicate, Option, Some, None, refl, ap, ◌∙◌, arith, slice_set, slice_index_or}
+use Rattle.std.proofs.Common.{◌≡◌, ℕ, zero, suc, ◌-◌, List, [], ◌∷◌, ◌++◌, length, map, replicate, Option, Some, None, refl, ap, ◌∙◌}
 use Rattle.std.specs.Prelude.{option_map}
 use Rattle.std.proofs.lemmas.List.{length-map, map-append}
 use Rattle.std.proofs.lemmas.Option.{same_Some}
 use Rattle.c_memory.specs.declared.blocks.Block.{Block}
+use Rattle.c_memory.specs.Memory.{refilled}
 use Rattle.c_memory.specs.Defined.{Leaves}
 use Rattle.c_memory.specs.Meaning.{filled}
-use Rattle.c_values.specs.ByteLists.{refilled}
-
--- the block of that number gets other bytes
-pub refilled_at : (m : List Block) (block : ℕ) (bytes : List (Option ℕ)) (d : Block) → block < length m
-    → slice_set m block (record (slice_index_or m block d) { bytes = bytes }) ≡ refilled block bytes m
-refilled_at [] block bytes d h = absurd (omega (arith, h))
-refilled_at (b ∷ rest) zero bytes d h = refl
-refilled_at (b ∷ rest) (suc block) bytes d h = ap (λ all. b ∷ all) (refilled_at rest block bytes d (omega (arith, h)))
-
--- where there is none nothing changes
-pub refilled_past : (m : List Block) (block : ℕ) (bytes : List (Option ℕ)) → length m ≤ block → m ≡ refilled block bytes m
-refilled_past [] block bytes h = refl
-refilled_past (b ∷ rest) zero bytes h = absurd (omega (arith, h))
-refilled_past (b ∷ rest) (suc block) bytes h = ap (λ all. b ∷ all) (refilled_past rest block bytes (omega (arith, h)))
 
 refilled_set : (m : List Block) (block : ℕ) (bytes : List ℕ) → refilled block (map Some bytes) m ≡ filled block bytes m
 refilled_set [] block bytes = refl

@@ -1,10 +1,9 @@
 -- Bytes as the code keeps them: of a value in an array, of a block set or unset.
-use Rattle.std.specs.Prelude.{ℕ, zero, suc, List, [], ◌∷◌, Option}
+use Rattle.std.specs.Prelude.{ℕ, List, Option}
 use Rattle.std.specs.Option.{option_and_then}
 use Rattle.const_imm.specs.Constant.{value_of}
 use Rattle.c_tree.specs.declared.types.CType.{CType}
 use Rattle.c_tree.specs.Tree.{Tree}
-use Rattle.c_memory.specs.declared.blocks.Block.{Block}
 use Rattle.c_memory.specs.declared.value.Value.{Value}
 use Rattle.c_memory.specs.MeaningValues.{converted_value}
 use Rattle.c_memory.specs.MeaningObjects.{encoded}
@@ -22,9 +21,3 @@ bytes_in (ThirtyTwo bytes) = bytes
 -- the bytes of a constant in an object of this type
 abbrev pub constant_encoded : CType → Tree → Option (List ℕ)
 constant_encoded ty e = option_and_then (λ n. option_and_then (encoded ty) (converted_value ty (Value.Int n))) (value_of e)
-
--- a block's bytes become these
-abbrev pub refilled : ℕ → List (Option ℕ) → List Block → List Block
-refilled block bytes [] = []
-refilled zero bytes (b ∷ rest) = record b { bytes = bytes } ∷ rest
-refilled (suc block) bytes (b ∷ rest) = b ∷ refilled block bytes rest

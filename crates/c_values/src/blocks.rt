@@ -6,17 +6,16 @@ ghost use Rattle.const_imm.specs.Constant.{value_of};
 ghost use Rattle.c_memory.specs.Defined.{Leaves};
 ghost use Rattle.c_memory.specs.Meaning.{filled, constant_bytes, table_block};
 ghost use Rattle.c_memory.specs.MeaningObjects.{encoded, natural_alignment, written_alignment, block_of, unset_bytes, constants_bytes, array_bytes};
-ghost use Rattle.c_values.specs.ByteLists.{refilled, constant_encoded};
+ghost use Rattle.c_values.specs.ByteLists.{constant_encoded};
 
 use crate::encoding::{encoded, encoded_integer};
 use crate::numbers::{element_size, magnitude};
 use crate::operators::converted_value;
-use c_memory::{Block, BlockList, ByteList, Memory, Value};
+use c_memory::{Block, ByteList, Memory, Value};
 use c_tree::{CType, Declared, Expr, IntType, Num, Pointee};
 use const_imm::{eval_const, size_of};
 use scalar_core::convert;
 use std::alloc::{AllocError, Global};
-use std::mem::replace;
 
 /// The value of a constant expression, if it has one.
 fn constant_value(e: &Expr) -> Option<Num>
@@ -217,25 +216,6 @@ pub fn table_block(alloc: Global, d: &Declared) -> Result<Block, AllocError>
     }
 }
 
-/// The bytes of the block of that number become these, where there is one.
-fn put_bytes(all: &mut [Block], block: usize, bytes: Vec<Option<u8>>)
-    ensures { all.new ≡ refilled block bytes.items all.old }
-{
-    if block >= all.len() {
-        return;
-    }
-    all[block].bytes = ByteList::new(bytes);
-}
-
-/// A block's bytes become these, also where the block isn't written otherwise.
-fn refill(alloc: Global, memory: &mut Memory, block: usize, bytes: Vec<Option<u8>>)
-    ensures { memory.new.blocks ≡ refilled block bytes.items memory.old.blocks }
-{
-    let mut all = replace(&mut memory.blocks, BlockList::new(Vec::new(alloc))).into_vec();
-    put_bytes(&mut all, block, bytes);
-    memory.blocks = BlockList::new(all);
-}
-
 /// A block's bytes become those of a value, also where the block isn't written otherwise. None exactly where no bytes stand for the
 /// value in an object of the type, and then the memory stays. The only error is want of memory.
 pub fn fill_value(
@@ -249,7 +229,7 @@ pub fn fill_value(
 {
     match encoded_bytes(alloc, ty, v)? {
         Some(bytes) => {
-            refill(alloc, memory, block, bytes);
+            memory.blocks.refill(block, bytes);
             Ok(Some(()))
         }
         None => Ok(None),
@@ -269,7 +249,7 @@ pub fn fill_list(
 {
     match array_bytes(alloc, ty, list)? {
         Some(bytes) => {
-            refill(alloc, memory, block, bytes);
+            memory.blocks.refill(block, bytes);
             Ok(Some(()))
         }
         None => Ok(None),

@@ -384,25 +384,26 @@ fn made<T: VectorTable>(
     }
 }
 
-/// A call of the row with these values: what it gives, and the memory after it. `Ok(None)` is for a call that is undefined: where a
+/// A call of the row, which has this signature, with these values: what it gives, and the memory after it. `Ok(None)` is for a call that is undefined: where a
 /// value isn't of its parameter's kind, where the immediate is out of its range, and where an access isn't defined, and then the memory
 /// may have any bytes written. The only error is want of memory.
 pub fn row_call<T: VectorTable>(
     alloc: Global,
     table: &T,
     op: T::Op,
+    sig: &Sig,
     memory: &mut Memory,
     values: &[Value],
 ) -> Result<Option<Option<Value>>, AllocError>
+    requires { sig.now ≡ T.signature_of op }
     ensures { IfOk result (λ done. Makes (row_result (rows_of T.find_of T.signature_of T.range_of T.accesses_of T.access_of T.eval_of) op values.now memory.old.blocks) done memory.new.blocks) }
 {
-    let sig = table.signature(op);
-    let kinds = kinds_of(&sig);
+    let kinds = kinds_of(sig);
     if !fits_kinds(kinds, values) {
         return Ok(None);
     }
     match in_range(table.range(op), immediate(kinds, values)) {
-        Some(imm) => made(alloc, table, op, &sig, imm, memory, values),
+        Some(imm) => made(alloc, table, op, sig, imm, memory, values),
         None => Ok(None),
     }
 }

@@ -400,10 +400,13 @@ fn called<T: VectorTable>(
 ) -> Result<Option<Option<Value>>, AllocError> {
     let op = table.find(name);
     assert!(rt; op.is_some());
-    match (op, second) {
-        (Some(op), Some(second)) => row_call(alloc, table, op, memory, &[first, second]),
-        (Some(op), None) => row_call(alloc, table, op, memory, &[first]),
-        (None, _) => Ok(None),
+    let Some(op) = op else {
+        return Ok(None);
+    };
+    let sig = table.signature(op);
+    match second {
+        Some(second) => row_call(alloc, table, op, &sig, memory, &[first, second]),
+        None => row_call(alloc, table, op, &sig, memory, &[first]),
     }
 }
 

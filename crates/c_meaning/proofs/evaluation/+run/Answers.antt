@@ -1,4 +1,4 @@
-use Rattle.std.proofs.Common.{◌≡◌, ◌+◌, ◌<◌, ◌∷◌, true, map, length, drop, option_map, rules, ap, sym, ◌∙◌, arith, refl, inl}
+use Rattle.std.proofs.Common.{◌≡◌, true, option_map, rules, ap, sym, ◌∙◌, arith, refl, inl}
 use Rattle.std.proofs.lemmas.Grind.{common_steps}
 use Rattle.c_tree.specs.declared.statements.Stmt as code
 use Rattle.c_tree.specs.declared.statements.Stmt.{Stmt, fold-roll-Stmt}
@@ -10,7 +10,7 @@ use Rattle.address_taken.specs.Taken.{seen_all}
 use Rattle.c_memory.specs.MeaningState.{scoped}
 use Rattle.c_memory.specs.Meaning.{condition, expression, loops, loops_after, with_step, optional_condition, optional_value}
 use Rattle.c_meaning.specs.States.{seen_state}
-use Rattle.c_meaning.specs.Callees.{seen_callee, calls_at}
+use Rattle.c_meaning.specs.Callees.{calls_at}
 use Rattle.c_meaning.specs.Flagged.{parts_of, act}
 use Rattle.c_meaning.specs.Weights.{weight, optional_weight, statement_weight}
 use Rattle.c_meaning.proofs.Callees.{call_enters, call_of_no_function, weight_falls}

@@ -1,7 +1,7 @@
 use Rattle.std.proofs.Common.{◌≡◌, ◌++◌, length, map, drop}
 use Rattle.c_tree.specs.View.{view_item}
 use Rattle.c_memory.specs.Meaning.{table_blocks, table_objects}
-use Rattle.c_meaning.specs.Seen.{seen_binding}
+use Rattle.c_meaning.specs.Bindings.{seen_binding}
 use Rattle.c_meaning.proofs.unit.begin_tables.Given as goal
 
 abbrev pub invariant-loop-item : goal.invariant-loop-item

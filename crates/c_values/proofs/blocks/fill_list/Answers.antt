@@ -6,4 +6,4 @@ use Rattle.c_values.proofs.blocks.fill_list.Goals as goal
 pub returns-in-Some : goal.returns-in-Some
 returns-in-Some c =
     let e = c.in_ok-bytes.ensures in
-    refill_leaves (array_bytes c.args.ty (views c.args.list.now)) c.in-Some.bytes.items c.args.block c.args.memory.now.blocks c.refill.new.memory.blocks (rw c.in-Some.is at e) c.refill.ensures
+    refill_leaves (array_bytes c.args.ty (views c.args.list.now)) c.in-Some.bytes.items c.args.block c.args.memory.now.blocks c.refill.new.self (rw c.in-Some.is at e) c.refill.ensures

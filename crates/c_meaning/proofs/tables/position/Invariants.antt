@@ -1,6 +1,6 @@
 use Rattle.std.proofs.Common.{◌≡◌, ◌≤◌, true, length, drop}
-use Rattle.c_meaning.specs.Seen.{none_named}
-use Rattle.c_meaning.proofs.objects.position.Given as goal
+use Rattle.c_meaning.specs.Bindings.{none_named}
+use Rattle.c_meaning.proofs.tables.position.Given as goal
 
 abbrev pub invariant-loop-k : goal.invariant-loop-k
 invariant-loop-k l = (l.k ≤ length l.bindings) × (none_named l.name (drop l.k l.bindings) ≡ true)

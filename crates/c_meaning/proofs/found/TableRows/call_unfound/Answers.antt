@@ -1,7 +1,7 @@
 use Rattle.std.proofs.Common.{sym, ◌∙◌}
 use Rattle.c_memory.specs.MeaningRows.{rows_of}
 use Rattle.c_meaning.proofs.Made.{row_answers}
-use Rattle.c_meaning.proofs.unit.TableRowsRows.call.Goals as goal
+use Rattle.c_meaning.proofs.found.TableRows.call_unfound.Goals as goal
 
 pub returns-in_ok-given-in-Some : goal.returns-in_ok-given-in-Some
 returns-in_ok-given-in-Some g c =
