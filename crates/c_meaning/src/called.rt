@@ -47,10 +47,7 @@ fn add_of_all<'a>(names: &mut Vec<&'a [u8]>, all: &'a [Expr]) -> Result<(), Allo
 }
 
 /// The same of an expression that may be left out.
-fn add_of_optional<'a>(
-    names: &mut Vec<&'a [u8]>,
-    e: &'a Option<Expr>,
-) -> Result<(), AllocError> {
+fn add_of_optional<'a>(names: &mut Vec<&'a [u8]>, e: &'a Option<Expr>) -> Result<(), AllocError> {
     match e {
         None => Ok(()),
         Some(e) => add_called(names, e),
@@ -58,10 +55,7 @@ fn add_of_optional<'a>(
 }
 
 /// The same of first values.
-fn add_of_objects<'a>(
-    names: &mut Vec<&'a [u8]>,
-    all: &'a [Declared],
-) -> Result<(), AllocError> {
+fn add_of_objects<'a>(names: &mut Vec<&'a [u8]>, all: &'a [Declared]) -> Result<(), AllocError> {
     for d in all {
         add_of_optional(names, &d.init)?;
     }
@@ -96,10 +90,7 @@ fn add_of_statement<'a>(names: &mut Vec<&'a [u8]>, s: &'a Stmt) -> Result<(), Al
 }
 
 #[cycle(statements)]
-fn add_of_maybe<'a>(
-    names: &mut Vec<&'a [u8]>,
-    s: &'a Option<Box<Stmt>>,
-) -> Result<(), AllocError> {
+fn add_of_maybe<'a>(names: &mut Vec<&'a [u8]>, s: &'a Option<Box<Stmt>>) -> Result<(), AllocError> {
     match s {
         None => Ok(()),
         Some(s) => add_of_statement(names, s),
@@ -107,10 +98,7 @@ fn add_of_maybe<'a>(
 }
 
 #[cycle(statements)]
-fn add_of_statements<'a>(
-    names: &mut Vec<&'a [u8]>,
-    all: &'a [Stmt],
-) -> Result<(), AllocError> {
+fn add_of_statements<'a>(names: &mut Vec<&'a [u8]>, all: &'a [Stmt]) -> Result<(), AllocError> {
     for s in all {
         add_of_statement(names, s)?;
     }

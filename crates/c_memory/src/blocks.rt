@@ -289,7 +289,12 @@ impl BlockList {
     pub fn end_from(&mut self, start: usize)
         ensures { self.new ≡ ended_from start self.old }
     {
-        end_behind(self.blocks.as_mut_slice(), &mut self.living, self.first, start);
+        end_behind(
+            self.blocks.as_mut_slice(),
+            &mut self.living,
+            self.first,
+            start,
+        );
     }
 
     /// The bytes of the block of that number become these, also where the block isn't written otherwise.

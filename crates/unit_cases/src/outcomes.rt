@@ -213,7 +213,15 @@ fn answer(alloc: Global, text: &str, turns: u64) -> Result<Vec<u8>, Fail> {
         }
         None => {
             let unit = typed(alloc, text, Dialect::X86)?;
-            run(alloc, &X86Rows, unit.unit(), b"f", args.as_slice(), memory, turns)?
+            run(
+                alloc,
+                &X86Rows,
+                unit.unit(),
+                b"f",
+                args.as_slice(),
+                memory,
+                turns,
+            )?
         }
     };
     Ok(show(alloc, &outcome)?)

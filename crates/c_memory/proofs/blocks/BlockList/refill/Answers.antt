@@ -17,10 +17,11 @@ invariant_of-self c =
     let old = c.index.result.now in
     let new : Block = record c.index_mut.result.now { bytes = c.new.result } in
     let inside : c.args.block < length m = grind (arith, c.if-block-len.false, c.len.ensures, c.self.inside.blocks.ok) in
-    let count : c.len-2.result ≡ length m = grind (arith, c.len-2.ensures, c.self.inside.blocks.ok) in
-    (ap (λ n. fall n (reverse c.self.inside.living.items)) (length-set m c.args.block new) ∙ c.self.invariant.0,
-    refill_keeps c.self.inside.first c.noted_from-self-inside.result c.len-2.result (reverse c.self.inside.living.items) m c.args.block old new inside count
-    (c.noted_from-self-inside.ensures ∙ ap (λ (b : Block). if b.alive then c.self.inside.first else c.len-2.result) c.index.ensures) c.self.invariant.1)
+    let count : c.len-2.result ≡ length m = grind (arith, c.len-2.ensures, c.self.inside.blocks.ok) in (
+      ap (λ n. fall n (reverse c.self.inside.living.items)) (length-set m c.args.block new) ∙ c.self.invariant.0,
+      refill_keeps c.self.inside.first c.noted_from-self-inside.result c.len-2.result (reverse c.self.inside.living.items) m c.args.block old new inside count
+          (c.noted_from-self-inside.ensures ∙ ap (λ (b : Block). if b.alive then c.self.inside.first else c.len-2.result) c.index.ensures) c.self.invariant.1,
+    )
 
 pub returns : goal.returns
 returns c =

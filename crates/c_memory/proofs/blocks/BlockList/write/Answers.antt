@@ -16,7 +16,8 @@ pub invariant_of-self : goal.invariant_of-self
 invariant_of-self c =
     let m = c.self.inside.blocks.items in
     let old = c.index_mut.result.now in
-    let below : c.args.block < length m = grind (arith, c.if-block-len.false, c.len.ensures, c.self.inside.blocks.ok) in
-    (ap (λ n. fall n (reverse c.self.inside.living.items)) (length-set m c.args.block c.write.new.self) ∙ c.self.invariant.0,
-    kept_at c.self.inside.first (reverse c.self.inside.living.items) m c.args.block old c.write.new.self below
-    (λ e. write_keeps old c.args.offset c.args.align c.args.bytes.now c.write.result c.write.new.self c.write.ensures (ap is_ended c.index_mut.ensures.value ∙ e)) c.self.invariant.1)
+    let below : c.args.block < length m = grind (arith, c.if-block-len.false, c.len.ensures, c.self.inside.blocks.ok) in (
+      ap (λ n. fall n (reverse c.self.inside.living.items)) (length-set m c.args.block c.write.new.self) ∙ c.self.invariant.0,
+      kept_at c.self.inside.first (reverse c.self.inside.living.items) m c.args.block old c.write.new.self below
+          (λ e. write_keeps old c.args.offset c.args.align c.args.bytes.now c.write.result c.write.new.self c.write.ensures (ap is_ended c.index_mut.ensures.value ∙ e)) c.self.invariant.1,
+    )
