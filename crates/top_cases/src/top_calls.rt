@@ -217,10 +217,11 @@ const LOAD: &[u8] = b"__m128i f(const __m128i *p) { return _mm_loadu_si128(p); }
 
 // Words for a run, the source, and what comes.
 // Units of directives and macros: guards, conditions on predefined names, a macro of several lines.
-const UNITS: [&[u8]; 2] = [
-    b"#ifndef UNIT_H\n#define UNIT_H\n#pragma once\n#include <immintrin.h>\n#if defined(__AVX2__) && !defined(NARROW)\n#define LANES 32\n#elif defined(__SSE2__)\n#define LANES 16\n#endif\n#define ADD_TWICE(sum, x) do { \\\n    (sum) += (x); \\\n    (sum) += (x); \\\n} while (0)\nstatic int f(int x) { return x * LANES; }\nint g(int x) {\n    int s = _MM_SHUFFLE(0, 0, 0, 2);\n    for (int i = 0; i <= x; i++)\n        ADD_TWICE(s, i);\n    return s;\n}\n#endif\n",
-    b"#include <arm_neon.h>\n#if defined(__ARM_NEON) && !defined(__AVX2__)\n#define TWO 2\n#endif\nint f(void) { bool b = true; return b ? TWO : 1; }\n",
-];
+const GUARDED: &[u8] =
+    b"#ifndef UNIT_H\n#define UNIT_H\n#pragma once\n#include <immintrin.h>\n#if defined(__AVX2__) && !defined(NARROW)\n#define LANES 32\n#elif defined(__SSE2__)\n#define LANES 16\n#endif\n#define ADD_TWICE(sum, x) do { \\\n    (sum) += (x); \\\n    (sum) += (x); \\\n} while (0)\nstatic int f(int x) { return x * LANES; }\nint g(int x) {\n    int s = _MM_SHUFFLE(0, 0, 0, 2);\n    for (int i = 0; i <= x; i++)\n        ADD_TWICE(s, i);\n    return s;\n}\n#endif\n";
+
+const GUARDED_BY_NEON: &[u8] =
+    b"#include <arm_neon.h>\n#if defined(__ARM_NEON) && !defined(__AVX2__)\n#define TWO 2\n#endif\nint f(void) { bool b = true; return b ? TWO : 1; }\n";
 
 const RUNS: [(&[&str], &[u8], Status, &[u8]); 26] = [
     (
@@ -295,19 +296,19 @@ const RUNS: [(&[&str], &[u8], Status, &[u8]); 26] = [
     ),
     (
         &["run", "x86", "f", "0", "int:5"],
-        UNITS[0],
+        GUARDED,
         Status::Done,
         b"value int 160\n",
     ),
     (
         &["run", "x86", "g", "9", "int:3"],
-        UNITS[0],
+        GUARDED,
         Status::Done,
         b"value int 14\n",
     ),
     (
         &["run", "neon", "f", "0"],
-        UNITS[1],
+        GUARDED_BY_NEON,
         Status::Done,
         b"value int 2\n",
     ),
