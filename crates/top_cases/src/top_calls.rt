@@ -186,9 +186,9 @@ const ROWS: [(&[u8], Status, &[u8]); 30] = [
         b"2:9: 11 TypeFault f\n",
     ),
     (
-        b"__m128i mg_f(__m128i b){return b;}\n__m128i f(__m128i NULL){return NULL;}\n__m128i vaddq_u8(__m128i b){return b;}",
+        b"__m128i mg_f(__m128i b){return b;}\n__m128i f(__m128i __ARM_NEON){return __ARM_NEON;}\n__m128i vaddq_u8(__m128i b){return b;}",
         Status::Refused,
-        b"1:9: 12 ReservedName mg_f\n2:19: 12 ReservedName NULL\n3:9: 12 ReservedName vaddq_u8\n",
+        b"1:9: 12 ReservedName mg_f\n2:19: 12 ReservedName __ARM_NEON\n3:9: 12 ReservedName vaddq_u8\n",
     ),
 ];
 
