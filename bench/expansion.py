@@ -6,7 +6,9 @@ up to 1 MiB and else in the Neon dialect, whose limit is 16 MiB. For each text i
 and whole, what is left or the number of the refusal, how the time grows (4 is linear, and less where starting costs most), the greatest memory, and the
 seconds of `gcc -E` on the whole text, or that it didn't end within 20 s and 2 GB.
 """
-import os, resource, shutil, subprocess, tempfile, time
+import os, resource, subprocess, tempfile, time
+
+from small_programs import build
 
 MAIN = '''//! Prints how many tokens directives and macros leave of standard input, or the number of the refusal.
 #![tactic(auto)]
@@ -44,29 +46,7 @@ fn main(rt: HostRuntime) -> io::Result<()> {
     }
 }
 '''
-CRATES = ["c_text", "lane_core", "scalar_core", "c_constants", "c_macros", "c_conditions", "c_directives", "c_preproc"]
 ROUNDS = 3
-
-
-def build(top, folder):
-    shutil.copy(os.path.join(top, "HANDLES"), folder)
-    leave = shutil.ignore_patterns("out", "must-fail")
-    for name in CRATES:
-        shutil.copytree(os.path.join(top, "crates", name), os.path.join(folder, "crates", name), ignore=leave)
-    crate = os.path.join(folder, "crates", "count_left")
-    for part in ("src", "specs", "proofs"):
-        os.makedirs(os.path.join(crate, part))
-    open(os.path.join(crate, "specs", "Lib.antt"), "w").close()
-    with open(os.path.join(crate, "src", "main.rt"), "w") as file:
-        file.write(MAIN)
-    with open(os.path.join(top, "crates.txt")) as file:
-        lines = [line for line in file if line.split(":")[0] in CRATES]
-    with open(os.path.join(folder, "crates.txt"), "w") as file:
-        file.writelines(lines + ["count_left: c_preproc c_text\n"])
-    built = subprocess.run(["rt", "run"], cwd=crate, stdin=subprocess.DEVNULL, capture_output=True, text=True)
-    if built.returncode != 0:
-        raise SystemExit(built.stderr)
-    return os.path.join(crate, "out", "count_left")
 
 
 def doubled(last):
@@ -127,7 +107,7 @@ def peer_limits():
 def main():
     top = os.path.dirname(os.path.dirname(os.path.abspath(__file__)))
     with tempfile.TemporaryDirectory() as folder:
-        program = build(top, folder)
+        program, = build(top, folder, {"count_left": MAIN}, {"count_left": "c_preproc c_text"})
         path = os.path.join(folder, "unit.c")
         for name, make in TEXTS.items():
             took = []

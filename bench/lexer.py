@@ -4,7 +4,9 @@
 It builds a small program over crates/c_text in a temporary folder, runs it on texts of 262,144 and 1,048,576 bytes, and
 prints the seconds of each (the least of five runs) and their ratio: 4 is linear.
 """
-import os, shutil, subprocess, tempfile, time
+import os, subprocess, tempfile, time
+
+from small_programs import build
 
 MAIN = '''//! Prints how many tokens standard input has.
 #![tactic(auto)]
@@ -35,23 +37,6 @@ TEXTS = {
 }
 
 
-def build(top, folder):
-    shutil.copy(os.path.join(top, "HANDLES"), folder)
-    shutil.copytree(os.path.join(top, "crates", "c_text"), os.path.join(folder, "crates", "c_text"))
-    crate = os.path.join(folder, "crates", "count_tokens")
-    for part in ("src", "specs", "proofs"):
-        os.makedirs(os.path.join(crate, part))
-    open(os.path.join(crate, "specs", "Lib.antt"), "w").close()
-    with open(os.path.join(crate, "src", "main.rt"), "w") as file:
-        file.write(MAIN)
-    with open(os.path.join(folder, "crates.txt"), "w") as file:
-        file.write("c_text:\ncount_tokens: c_text\n")
-    built = subprocess.run(["rt", "run"], cwd=crate, stdin=subprocess.DEVNULL, capture_output=True, text=True)
-    if built.returncode != 0:
-        raise SystemExit(built.stderr)
-    return os.path.join(crate, "out", "count_tokens")
-
-
 def seconds(program, text):
     best = None
     for _ in range(5):
@@ -65,7 +50,7 @@ def seconds(program, text):
 def main():
     top = os.path.dirname(os.path.dirname(os.path.abspath(__file__)))
     with tempfile.TemporaryDirectory() as folder:
-        program = build(top, folder)
+        program, = build(top, folder, {"count_tokens": MAIN}, {"count_tokens": "c_text"})
         for name, make in TEXTS.items():
             quarter, whole = seconds(program, make(262144)), seconds(program, make(1048576))
             print(f"{name:8} 262144 bytes {quarter:.3f} s, 1048576 bytes {whole:.3f} s, ratio {whole / quarter:.1f}")

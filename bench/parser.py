@@ -5,7 +5,9 @@ It builds two small programs over crates/c_parse and crates/c_print in a tempora
 other parses the tokens too and prints the tree. It runs both on units of 150,000 and 600,000 bytes, and prints the seconds that the
 second takes more than the first (the least of five runs each) and their ratio: 4 is linear.
 """
-import os, shutil, subprocess, tempfile, time
+import os, subprocess, tempfile, time
+
+from small_programs import build
 
 HEAD = '''//! Prints how many %s the unit on standard input has.
 #![tactic(auto)]
@@ -51,7 +53,6 @@ PROGRAMS = {
     ).replace("use std::io::{self, Read};", "use std::alloc::Global;\nuse std::io::{self, Read};")
     + TAIL,
 }
-CRATES = ["c_text", "lane_core", "c_preproc", "c_tree", "c_parse", "c_print"]
 USES = {"cut": "c_text", "parse_and_print": "c_parse c_print c_text"}
 FUNCTION = b"""static inline int f%d(const uint8_t *p, size_t n) {
     int s = 0, t[4] = {1, 2, 3, 4};
@@ -67,30 +68,6 @@ TEXTS = {
     "one block": lambda n: b"int f(int x) {" + b"x = x * 3 - (x >> 1);" * (n // 21) + b"return x; }\n",
     "one table": lambda n: b"static const int t[] = {" + b"1, " * (n // 3) + b"};\n",
 }
-
-
-def build(top, folder, crates, programs, uses):
-    """Builds the programs, each over the crates that `uses` names for it, and gives their places in turn."""
-    shutil.copy(os.path.join(top, "HANDLES"), folder)
-    with open(os.path.join(top, "crates.txt")) as file:
-        lines = [line for line in file if line.split(":")[0] in crates]
-    for name in crates:
-        shutil.copytree(os.path.join(top, "crates", name), os.path.join(folder, "crates", name), ignore=shutil.ignore_patterns("out"))
-    for name, source in programs.items():
-        for part in ("src", "specs", "proofs"):
-            os.makedirs(os.path.join(folder, "crates", name, part))
-        open(os.path.join(folder, "crates", name, "specs", "Lib.antt"), "w").close()
-        with open(os.path.join(folder, "crates", name, "src", "main.rt"), "w") as file:
-            file.write(source)
-        lines.append(f"{name}: {uses[name]}\n")
-    with open(os.path.join(folder, "crates.txt"), "w") as file:
-        file.writelines(lines)
-    for name in programs:
-        crate = os.path.join(folder, "crates", name)
-        built = subprocess.run(["rt", "run"], cwd=crate, stdin=subprocess.DEVNULL, capture_output=True, text=True)
-        if built.returncode != 0:
-            raise SystemExit(built.stdout + built.stderr)
-        yield os.path.join(crate, "out", name)
 
 
 def seconds(program, text):
@@ -117,7 +94,7 @@ def compare(front, whole, texts):
 def main():
     top = os.path.dirname(os.path.dirname(os.path.abspath(__file__)))
     with tempfile.TemporaryDirectory() as folder:
-        compare(*build(top, folder, CRATES, PROGRAMS, USES), TEXTS)
+        compare(*build(top, folder, PROGRAMS, USES), TEXTS)
 
 
 if __name__ == "__main__":

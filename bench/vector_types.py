@@ -7,7 +7,8 @@ and their ratio: 4 is linear.
 """
 import os, tempfile
 
-from parser import FUNCTION, HEAD, build, compare
+from parser import FUNCTION, HEAD, compare
+from small_programs import build
 
 PARSED = '''
 // How many items the tokens' unit has%s. 0 where there is none.
@@ -42,24 +43,10 @@ TEXTS = {
 }
 
 
-def used_by(top, names):
-    """The crates that these stand on, and these, in the order of crates.txt."""
-    with open(os.path.join(top, "crates.txt")) as file:
-        below = {line.split(":")[0]: line.split(":")[1].split() for line in file if ":" in line}
-    found, left = set(), list(names)
-    while left:
-        name = left.pop()
-        if name in below and name not in found:
-            found.add(name)
-            left += below[name]
-    return [name for name in below if name in found]
-
-
 def main():
     top = os.path.dirname(os.path.dirname(os.path.abspath(__file__)))
     with tempfile.TemporaryDirectory() as folder:
-        crates = used_by(top, ["c_parse", "vector_types"])
-        compare(*build(top, folder, crates, PROGRAMS, USES), TEXTS)
+        compare(*build(top, folder, PROGRAMS, USES), TEXTS)
 
 
 if __name__ == "__main__":
