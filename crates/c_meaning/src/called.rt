@@ -105,8 +105,12 @@ fn add_of_statements<'a>(names: &mut Vec<&'a [u8]>, all: &'a [Stmt]) -> Result<(
     Ok(())
 }
 
-/// The names that the functions of these items call, one for each call. The only error is want of memory.
-pub fn called_names<'a>(alloc: Global, items: &'a [Item]) -> Result<Vec<&'a [u8]>, AllocError> {
+/// The names that the functions of these items call, one for each call: only how soon a row is found hangs on them. The only error is
+/// want of memory.
+pub(crate) fn called_names<'a>(
+    alloc: Global,
+    items: &'a [Item],
+) -> Result<Vec<&'a [u8]>, AllocError> {
     let mut names = Vec::new(alloc);
     for item in items {
         if let Item::Function(function) = item {

@@ -33,8 +33,9 @@ pub struct TableRows<'t, 'a, T: VectorTable> {
 }
 
 impl<'t, 'a, T: VectorTable> TableRows<'t, 'a, T> {
-    /// The rows of a table. Those of these names that aren't a function's are found at once. The only error is want of memory.
-    pub fn new(
+    /// The rows of a table. Those of these names that aren't a function's are found at once, and every other one when it is called. The
+    /// only error is want of memory.
+    pub(crate) fn new(
         alloc: Global,
         table: &'t T,
         functions: &Places,

@@ -4,7 +4,7 @@
 mod accesses;
 mod blocks;
 mod encoding;
-mod numbers;
+pub mod numbers;
 pub mod objects;
 pub mod operators;
 pub mod rows;

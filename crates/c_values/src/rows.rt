@@ -3,7 +3,7 @@
 ghost use Rattle.std.specs.Prelude.{◌≡◌, ◌++◌, replicate, IfOk, OnOk, IsTrue};
 ghost use Rattle.std.specs.Option.{option_and_then};
 ghost use Rattle.lane_core.specs.Table.{params_of, reads, Fits, InImmRange};
-ghost use Rattle.c_memory.specs.MeaningRows.{rows_of, fits_kind, fits_kinds, is_in_range, passed, arguments, number_at, immediate, pointer_among, size_of_kind, register, bytes_of, given, and_one, first_accesses, with_bytes_read, row_applied, row_made, row_result};
+ghost use Rattle.c_memory.specs.MeaningRows.{rows_of, fits_kind, fits_kinds, is_in_range, argument, passed, arguments, number_at, immediate, pointer_among, size_of_kind, register, bytes_of, given, and_one, first_accesses, with_bytes_read, row_applied, row_made, row_result};
 ghost use Rattle.c_values.specs.Results.{Gives, Makes};
 ghost use Rattle.c_values.specs.Accesses.{AreArgs, in_range, unless_nothing, integer_given, reads_in};
 
@@ -62,17 +62,31 @@ fn in_range(range: ImmRange, number: u64) -> Option<u16>
     }
 }
 
+/// The value as an argument: an integer as its value modulo 2^64, and a pointer as nothing.
+pub fn argument(v: Value) -> Arg
+    ensures { result ≡ argument v }
+{
+    match v {
+        Value::Int(n) => Arg::Int(bits(IntType::ULong, n.value)),
+        Value::R8(r) => Arg::R8(r),
+        Value::R16(r) => Arg::R16(r),
+        Value::R32(r) => Arg::R32(r),
+        Value::At(_) => Arg::Nothing,
+    }
+}
+
 /// The value as an argument for a parameter of the kind.
 fn passed(kind: ParamKind, v: Value) -> Arg
     ensures { result ≡ passed kind v }
 {
-    match (kind, v) {
-        (ParamKind::Immediate, _) => Arg::Nothing,
-        (_, Value::Int(n)) => Arg::Int(bits(IntType::ULong, n.value)),
-        (_, Value::R8(r)) => Arg::R8(r),
-        (_, Value::R16(r)) => Arg::R16(r),
-        (_, Value::R32(r)) => Arg::R32(r),
-        (_, Value::At(_)) => Arg::Nothing,
+    match kind {
+        ParamKind::Immediate => Arg::Nothing,
+        ParamKind::Reg(_)
+        | ParamKind::Lane(_, _)
+        | ParamKind::Pair
+        | ParamKind::Scalar(_)
+        | ParamKind::PointerTo(_, _)
+        | ParamKind::Nothing => argument(v),
     }
 }
 
