@@ -6,4 +6,7 @@ mod Pure
 mod Names
 mod Sizes
 mod Bodies
+mod Evaluated
+mod Lists
 mod InPlaced
+mod InOrder

@@ -9,3 +9,4 @@ pub mod Written
 pub mod Functions
 pub mod InPlace
 pub mod Claims
+pub mod Listed

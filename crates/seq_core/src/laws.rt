@@ -1,12 +1,12 @@
 //! What holds of sequences and of the C that is written for them.
 
-ghost use Rattle.std.specs.Prelude.{ℕ, List};
+ghost use Rattle.std.specs.Prelude.{ℕ, List, Bool};
 ghost use Rattle.c_text.specs.declared.tokens.Place.{Place};
 ghost use Rattle.c_tree.specs.Tree.{Tree};
 ghost use Rattle.seq_core.specs.Terms.{Term as Plain, Sequence};
 ghost use Rattle.seq_core.specs.Written.{pen, written};
 ghost use Rattle.seq_core.specs.Functions.{function_of};
-ghost use Rattle.seq_core.specs.InPlace.{HoldsInPlace};
+ghost use Rattle.seq_core.specs.InPlace.{HoldsInPlace, HoldsWhereItStood};
 ghost use Rattle.seq_core.specs.Claims.{IsCallable, DoesTheSame, GivesItsValue};
 
 /// A call of the function that is written for a well-formed sequence gives the sequence's value and leaves its bytes, spends no turn and
@@ -24,4 +24,10 @@ pub fn a_sequence_without_memory_gives_its_value()
 /// may change the state, where they run in the order in which the term has them.
 pub fn a_straight_term_holds_in_place()
     ensures { (place : Place) (params steps : List Tree) (t : Plain) → HoldsInPlace place params t (written (pen place params steps) t) }
+{}
+
+/// A sequence that may stand in place of a row's call gives its value there, over operands that may change the state: each compound operand is
+/// evaluated once and in its order, and the simple ones read the same wherever they are read.
+pub fn a_sequence_in_place_gives_its_value()
+    ensures { (place : Place) (params : List Tree) (simple : List Bool) (q : Sequence) → HoldsWhereItStood place params simple q }
 {}

@@ -1,4 +1,3 @@
-use Rattle.std.proofs.Common.{◌≡◌}
 use Rattle.seq_core.proofs.Bodies.{call_leads}
 use Rattle.seq_core.proofs.laws.a_function_does_what_its_sequence_does.Goals as goal
 
