@@ -1,5 +1,5 @@
 -- A call of the function of a sequence gives its value and its memory, and spends no turn.
-use Rattle.std.proofs.Common.{◌≡◌, ℕ, zero, suc, ◌+◌, ◌<◌, ◌≤◌, ◌^◌, ◌++◌, List, [], ◌∷◌, map, Bool, true, false, Option, Some, None, refl, sym, ap, subst, ◌∙◌, arith, append-nil, append_assoc, get_or, length}
+use Rattle.std.proofs.Common.{◌≡◌, ℕ, zero, suc, ◌+◌, ◌<◌, ◌^◌, ◌++◌, List, [], ◌∷◌, map, Bool, true, false, Option, Some, None, refl, sym, ap, subst, ◌∙◌, arith, append-nil, append_assoc, get_or, length}
 use Rattle.std.specs.Prelude.{◌&&◌, ◌||◌, not, slice_get, if◌then◌else◌}
 use Rattle.std.specs.Option.{option_and_then}
 use Rattle.std.specs.Str.{bytes_eq}
@@ -10,29 +10,27 @@ use Rattle.c_tree.specs.Tree as tree
 use Rattle.c_tree.specs.Tree.{Tree, Trees, Node, NoTrees, More, Statement, Statements, NoStatements}
 use Rattle.c_tree.specs.View.{and_then}
 use Rattle.address_taken.specs.Addressed.{takes, takes_in_all, takes_statements}
-use Rattle.lane_core.specs.declared.number.BinOp.{BinOp}
 use Rattle.lane_core.specs.declared.table.ParamKind.{ParamKind}
 use Rattle.lane_core.specs.declared.table.ParamKind.TheVariants as kind
 use Rattle.lane_core.specs.Table.{params_of}
 use Rattle.scalar_core.specs.Operators.{is_comparison}
 use Rattle.c_memory.specs.declared.value.Value.{Value}
 use Rattle.c_memory.specs.declared.blocks.Block.{Block}
-use Rattle.c_memory.specs.MeaningState.{State, Binding, Location, Apart, Done, Does, found}
+use Rattle.c_memory.specs.MeaningState.{State, Binding, Location, Apart, Done, found}
 use Rattle.c_memory.specs.MeaningObjects.{value_named, half_named}
 use Rattle.c_memory.specs.Meaning as meaning
 use Rattle.c_tree.specs.Types.{is_array}
 use Rattle.c_memory.specs.Meaning.{Calls, Flow, Next, Returned, sequence, act, object_value, begin_parameter, begin_parameters, call_of, result}
 use Rattle.c_memory.specs.Memory.{ended_from}
-use Rattle.neon_table.specs.declared.NeonOp.{NeonOp}
 use Rattle.neon_table.specs.Rows.{signature_of}
 use Rattle.seq_core.specs.Rows.{AreRows}
 use Rattle.seq_core.specs.Terms as term
 use Rattle.seq_core.specs.Terms.{Term, Terms, Sequence}
 use Rattle.seq_core.specs.Values.{step_value, halved}
-use Rattle.seq_core.specs.Actions.{Acts, then_acts, just, called_in, value_in, values_in, is_void, storing_in, step_in, steps_in, result_in, sequence_in}
-use Rattle.seq_core.specs.Formed.{vector, byte, type_of_kind, operator_type, type_of, IsFormed, IsCarrier, AreCarriers, IsResult, FormedFrom, WellFormed}
-use Rattle.seq_core.specs.Written.{Pen, nothing, written, all_written, with_constant, constant, call, operator}
-use Rattle.seq_core.specs.Functions.{Variable, step_name, param_name, params_from, named, pen_over, object_of, step_variable, step_statement, steps_written, steps_after, returned, result_type, function_of}
+use Rattle.seq_core.specs.Actions.{then_acts, just, called_in, value_in, values_in, is_void, storing_in, step_in, steps_in, result_in, sequence_in}
+use Rattle.seq_core.specs.Formed.{vector, type_of_kind, type_of, IsFormed, IsCarrier, AreCarriers, IsResult, FormedFrom, WellFormed}
+use Rattle.seq_core.specs.Written.{Pen, nothing, written, all_written, with_constant, constant}
+use Rattle.seq_core.specs.Functions.{Variable, step_name, params_from, named, pen_over, object_of, step_variable, step_statement, steps_written, steps_after, returned, result_type, function_of}
 use Rattle.seq_core.proofs.Gives.{at, LeadsIt}
 use Rattle.seq_core.proofs.RowCalls.{first_of, second_of}
 use Rattle.seq_core.proofs.Leads.{Read, some_same, acted, just_is, leads, all_lead, row_leads}

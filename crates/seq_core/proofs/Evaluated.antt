@@ -3,7 +3,6 @@ use Rattle.std.proofs.Common.{Result, Ok, Err, IfOk, ◌≡◌, List, [], ◌∷
 use Rattle.std.specs.Prelude.{option_map, IsSome}
 use Rattle.std.specs.Option.{option_and_then}
 use Rattle.lane_core.specs.declared.table.Arg.{Arg}
-use Rattle.c_tree.specs.declared.types.CType.{CType}
 use Rattle.c_memory.specs.declared.blocks.Block.{Block}
 use Rattle.c_memory.specs.declared.value.Value.{Value}
 use Rattle.c_values.specs.Results.{Makes}

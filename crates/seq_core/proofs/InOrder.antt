@@ -1,22 +1,20 @@
 -- Operands that run where they stood: the simple ones may be read anywhere among them.
-use Rattle.std.proofs.Common.{◌≡◌, ℕ, ◌++◌, List, [], ◌∷◌, Bool, true, false, Option, Some, None, refl, sym, ap, subst, ◌∙◌, arith, get_or}
-use Rattle.std.specs.Prelude.{option_map, slice_get, ◌&&◌, nat_le, length, if◌then◌else◌}
+use Rattle.std.proofs.Common.{◌≡◌, ℕ, ◌++◌, List, [], ◌∷◌, Bool, true, false, Option, Some, None, refl, sym, ap, subst, ◌∙◌, arith}
+use Rattle.std.specs.Prelude.{option_map, slice_get, nat_le, length, if◌then◌else◌}
 use Rattle.std.specs.Option.{option_and_then}
 use Rattle.std.specs.Str.{bytes_eq}
 use Rattle.std.specs.Cmp.Lexicographic.{bytes_decides}
 use Rattle.c_text.specs.declared.tokens.Place.{Place}
-use Rattle.c_tree.specs.declared.types.CType.{CType}
 use Rattle.c_tree.specs.Tree.{Tree}
 use Rattle.c_memory.specs.declared.value.Value.{Value}
 use Rattle.c_memory.specs.MeaningState.{State, Done}
 use Rattle.c_memory.specs.Meaning.{Calls, expression}
-use Rattle.seq_core.specs.Rows.{AreRows}
 use Rattle.seq_core.specs.Terms as term
 use Rattle.seq_core.specs.Terms.{Term, Terms, Sequence}
 use Rattle.seq_core.specs.Values.{called, paired, operated, turned, value_of, values_of, sequence_value}
 use Rattle.seq_core.specs.Called.{rows_called}
-use Rattle.seq_core.specs.Formed.{FormedFrom, WellFormed}
-use Rattle.seq_core.specs.InPlace.{leaves, leaves_of_all, is_straight, are_straight, Runs, is_simple, compounds, numbers_from, stands_alone, stands_in_place, in_place, Readable, RunsAmong, HoldsWhereItStood}
+use Rattle.seq_core.specs.Formed.{WellFormed}
+use Rattle.seq_core.specs.InPlace.{leaves, leaves_of_all, is_straight, are_straight, Runs, is_simple, compounds, numbers_from, stands_alone, in_place, Readable, RunsAmong, HoldsWhereItStood}
 use Rattle.seq_core.proofs.Leads.{some_same}
 use Rattle.seq_core.proofs.RowCalls.{first_of, second_of}
 use Rattle.seq_core.proofs.Pure.{bound, mapped}

@@ -1,9 +1,8 @@
 -- In place: the operands' expressions may change the state, as long as each runs where the term has it.
-use Rattle.std.proofs.Common.{◌≡◌, ℕ, ◌++◌, List, [], ◌∷◌, Bool, true, false, Option, Some, None, refl, sym, ap, subst, ◌∙◌, arith, get_or}
-use Rattle.std.specs.Prelude.{option_map, slice_get, ◌&&◌}
+use Rattle.std.proofs.Common.{◌≡◌, ℕ, ◌++◌, List, [], ◌∷◌, true, Some, refl, sym, ap, subst, ◌∙◌, arith}
+use Rattle.std.specs.Prelude.{option_map}
 use Rattle.std.specs.Option.{option_and_then}
 use Rattle.lane_core.specs.declared.number.IntType.{IntType}
-use Rattle.lane_core.specs.declared.number.BinOp.{BinOp}
 use Rattle.lane_core.specs.declared.table.ParamKind.{ParamKind}
 use Rattle.lane_core.specs.declared.table.ParamKind.TheVariants as kind
 use Rattle.lane_core.specs.Table.{params_of}
@@ -23,7 +22,7 @@ use Rattle.seq_core.specs.Terms.{Term, Terms}
 use Rattle.seq_core.specs.Values.{called, paired, operated, turned, value_of, values_of}
 use Rattle.seq_core.specs.Actions.{with_value}
 use Rattle.seq_core.specs.Formed.{IsFormed, AreFormed}
-use Rattle.seq_core.specs.Written.{pen, nothing, cast, with_constant, written, all_written}
+use Rattle.seq_core.specs.Written.{pen, cast, with_constant, written, all_written}
 use Rattle.seq_core.specs.InPlace.{leaves, leaves_of_all, is_straight, are_straight, Runs}
 use Rattle.seq_core.proofs.Leads.{some_same, binary_given}
 use Rattle.seq_core.proofs.RowCalls.{first_of, second_of, row_gives}

@@ -1,5 +1,5 @@
 -- What is written for a term does what the term does: the value and the memory.
-use Rattle.std.proofs.Common.{◌≡◌, ℕ, zero, suc, List, [], ◌∷◌, Bool, true, false, Option, Some, None, refl, sym, ap, subst, ◌∙◌, arith, get_or}
+use Rattle.std.proofs.Common.{◌≡◌, ℕ, zero, suc, List, [], ◌∷◌, Bool, true, false, Option, Some, None, refl, ap, subst, ◌∙◌, arith, get_or}
 use Rattle.std.specs.Prelude.{option_map, slice_get, if◌then◌else◌}
 use Rattle.std.specs.Option.{option_and_then}
 use Rattle.std.specs.Str.{bytes_eq}
@@ -17,19 +17,19 @@ use Rattle.c_memory.specs.declared.blocks.Block.{Block}
 use Rattle.c_memory.specs.declared.value.Value.{Value}
 use Rattle.c_memory.specs.MeaningState.{State, Done}
 use Rattle.c_memory.specs.MeaningValues.{operate}
-use Rattle.c_memory.specs.MeaningObjects.{stored_at, load_from}
+use Rattle.c_memory.specs.MeaningObjects.{stored_at}
 use Rattle.c_memory.specs.MeaningRows.{row_done}
 use Rattle.c_memory.specs.Meaning as meaning
 use Rattle.c_memory.specs.Meaning.{Calls, expression, values, choose, name_in}
 use Rattle.neon_table.specs.declared.NeonOp.{NeonOp}
-use Rattle.neon_table.specs.Rows.{name_of, signature_of}
+use Rattle.neon_table.specs.Rows.{signature_of}
 use Rattle.seq_core.specs.Rows.{AreRows}
 use Rattle.seq_core.specs.Terms as term
 use Rattle.seq_core.specs.Terms.{Term, Terms}
 use Rattle.seq_core.specs.Values.{step_value, operated, turned, paired, halved}
 use Rattle.seq_core.specs.Actions.{Acts, then_acts, just, looks, with_value, called_in, shifted, byte_at, byte_set, chosen_in, value_in, values_in}
-use Rattle.seq_core.specs.Formed.{vector, byte, to_bytes, IsFormed, AreFormed}
-use Rattle.seq_core.specs.Written.{Pen, nothing, number, call, constant, with_constant, cast, chosen, moved, pointed, set, operator, written, all_written}
+use Rattle.seq_core.specs.Formed.{vector, byte, IsFormed, AreFormed}
+use Rattle.seq_core.specs.Written.{Pen, nothing, call, constant, with_constant, cast, chosen, moved, pointed, set, written, all_written}
 use Rattle.seq_core.proofs.Gives.{at, LeadsIt}
 use Rattle.seq_core.proofs.Constants.{constant_leads}
 

@@ -1,17 +1,17 @@
 -- Lists of expressions, statements and steps.
-use Rattle.std.proofs.Common.{◌≡◌, ◌≤◌, ℕ, suc, ◌+◌, List, [], ◌∷◌, ◌++◌, map, drop, refl, sym, ap, ◌∙◌, length, Option, None, true, append-nil}
+use Rattle.std.proofs.Common.{◌≡◌, ◌≤◌, ℕ, suc, List, [], ◌∷◌, ◌++◌, map, drop, refl, sym, ap, ◌∙◌, length, Option, None, true, append-nil}
 use Rattle.std.proofs.lemmas.List.{drop_all}
 use Rattle.c_text.specs.declared.tokens.Place.{Place}
 use Rattle.c_tree.specs.declared.expressions.Expr.{Expr}
 use Rattle.c_tree.specs.declared.types.CType.{CType}
-use Rattle.c_tree.specs.Tree.{Tree, Trees, NoTrees, More, Object, Statement, Definition, NoStatements}
+use Rattle.c_tree.specs.Tree.{Tree, Trees, NoTrees, More, Object, Statement, NoStatements}
 use Rattle.c_tree.specs.View.{view as view_tree, views, and_more, and_then}
 use Rattle.seq_core.specs.declared.terms.Term.{Term as CodeTerm}
-use Rattle.seq_core.specs.Terms.{Term, Sequence}
+use Rattle.seq_core.specs.Terms.{Term}
 use Rattle.seq_core.specs.View.{view_all}
 use Rattle.seq_core.specs.Written.{Pen, pen, all_written}
 use Rattle.seq_core.specs.Listed.{listed, names_after, statements_after, next_statement}
-use Rattle.seq_core.specs.Functions.{params_from, object_of, returned, result_type, function_of, Variable, named, step_over, step_variable, step_name, step_statement, statement_over, steps_written, steps_after}
+use Rattle.seq_core.specs.Functions.{params_from, object_of, returned, result_type, function_of, Variable, named, step_over, step_variable, step_statement, steps_written, steps_after}
 
 pub listed_back : (ts : Trees) → and_more (listed ts) NoTrees ≡ ts
 listed_back NoTrees = refl

@@ -1,12 +1,11 @@
 -- The names of parameters and steps are all different.
-use Rattle.std.proofs.Common.{◌≡◌, ℕ, zero, suc, ◌+◌, ◌<◌, ◌≤◌, ◌^◌, ◌++◌, List, [], ◌∷◌, Bool, true, false, refl, sym, ap, subst, ◌∙◌, arith, length, drop}
+use Rattle.std.proofs.Common.{◌≡◌, ℕ, suc, ◌+◌, ◌<◌, ◌≤◌, ◌^◌, ◌++◌, List, [], ◌∷◌, Bool, true, false, refl, ap, ◌∙◌, arith, length, drop}
 use Rattle.std.proofs.lemmas.Fmt.{decimal_injective}
 use Rattle.std.proofs.lemmas.Slice.Eq.{bytes_eq-Decides}
-use Rattle.std.specs.Prelude.{◌&&◌, not, codes, decimal}
+use Rattle.std.specs.Prelude.{◌&&◌, not}
 use Rattle.std.specs.Str.{bytes_eq}
 use Rattle.c_tree.specs.declared.types.CType.{CType}
 use Rattle.seq_core.specs.Functions.{Variable, param_name, step_name, params_from}
-use Rattle.seq_core.proofs.RowCalls.{and_true}
 
 -- the name is none of theirs
 abbrev pub is_new : List ℕ → List Variable → Bool

@@ -1,5 +1,5 @@
 -- A term that has a value without memory does nothing to memory but give its value.
-use Rattle.std.proofs.Common.{arith, ◌≡◌, ℕ, List, [], ◌∷◌, ◌++◌, Option, Some, None, refl, ap, sym, ◌∙◌, true, false, Bool}
+use Rattle.std.proofs.Common.{arith, ◌≡◌, List, [], ◌∷◌, ◌++◌, Option, Some, None, refl, ap, true, false, Bool}
 use Rattle.std.specs.Prelude.{option_map, if◌then◌else◌, ◌&&◌}
 use Rattle.std.specs.Option.{option_and_then}
 use Rattle.const_imm.specs.Constant.{is_true}
@@ -11,12 +11,11 @@ use Rattle.c_tree.specs.declared.types.CType.{CType}
 use Rattle.c_memory.specs.declared.blocks.Block.{Block}
 use Rattle.c_memory.specs.declared.value.Value.{Value}
 use Rattle.c_memory.specs.MeaningRows.{given}
-use Rattle.neon_table.specs.declared.NeonOp.{NeonOp}
 use Rattle.neon_table.specs.Rows.{signature_of, eval_of}
 use Rattle.seq_core.specs.Rows.{is_without_memory, is_nothing}
 use Rattle.seq_core.specs.Terms.{Term, Terms, Param, Step, Const, Int, Call, PairOf, Half, Scalar, Convert, Choice, Shifted, ByteAt, SetByte, NoTerms, More, Sequence}
-use Rattle.seq_core.specs.Values.{step_value, fits_operands, placed, called, paired, halved, operated, turned, chosen, value_of, values_of, steps_from, result_over, sequence_value}
-use Rattle.seq_core.specs.Actions.{Acts, then_acts, just, called_in, chosen_in, value_in, values_in, is_void, step_in, steps_in, result_in, sequence_in}
+use Rattle.seq_core.specs.Values.{fits_operands, placed, called, paired, halved, operated, turned, chosen, value_of, values_of, steps_from, result_over, sequence_value}
+use Rattle.seq_core.specs.Actions.{Acts, just, chosen_in, value_in, values_in, is_void, step_in, steps_in, result_in, sequence_in}
 use Rattle.seq_core.specs.Formed.{type_of, IsFormed, AreFormed, IsResult, FormedFrom, WellFormed}
 use Rattle.seq_core.proofs.RowCalls.{row_gives}
 

@@ -15,14 +15,12 @@ use Rattle.lane_core.specs.Table.{params_of, InImmRange, reads}
 use Rattle.scalar_core.specs.Numbers.{num_of}
 use Rattle.scalar_core.specs.NumberLaws.{num_of_in_range}
 use Rattle.neon_elements.specs.Elements.{bytes_of}
-use Rattle.neon_forms.specs.declared.forms.Narrow.{Narrow}
-use Rattle.neon_forms.specs.declared.forms.Narrow.TheVariants as narrow
 use Rattle.neon_forms.specs.declared.forms.Transfer.TheVariants as transfer
 use Rattle.neon_forms.specs.declared.forms.Form.{Form}
 use Rattle.neon_forms.specs.declared.forms.Form.TheVariants as form
 use Rattle.neon_forms.specs.Forms as forms
 use Rattle.neon_table.specs.declared.NeonOp.{NeonOp}
-use Rattle.neon_table.specs.Rows.{form_of, signature_of, range_of, accesses_of, eval_of}
+use Rattle.neon_table.specs.Rows.{form_of, signature_of, range_of, eval_of}
 use Rattle.c_memory.specs.declared.blocks.Block.{Block}
 use Rattle.c_memory.specs.declared.value.Value.{Value}
 use Rattle.c_memory.specs.MeaningRows.{argument, given, fits_kind, fits_kinds, is_in_range, arguments, immediate}

@@ -1,5 +1,5 @@
 -- No action changes the number of blocks.
-use Rattle.std.proofs.Common.{◌≡◌, ℕ, List, [], ◌∷◌, ◌++◌, Bool, true, false, Option, Some, None, refl, sym, ap, subst, ◌∙◌, arith, length}
+use Rattle.std.proofs.Common.{◌≡◌, ℕ, List, [], ◌∷◌, ◌++◌, Bool, true, false, Option, Some, None, refl, sym, ap, ◌∙◌, arith, length}
 use Rattle.std.specs.Prelude.{option_map, slice_get, slice_set, if◌then◌else◌, filter, take, drop}
 use Rattle.std.specs.Option.{option_and_then}
 use Rattle.std.proofs.lemmas.List.{length-set}
@@ -14,7 +14,7 @@ use Rattle.c_memory.specs.declared.memory.Pointer.{Pointer}
 use Rattle.c_memory.specs.declared.memory.Pointer.TheVariants.{Null, At}
 use Rattle.c_memory.specs.declared.value.Value.{Value}
 use Rattle.c_memory.specs.Memory.{after_write, written_in}
-use Rattle.c_memory.specs.MeaningRows.{first_accesses, immediate, pointer_among, arguments, access_at, is_access, write_one, write_each, with_bytes_read, row_applied, row_made, row_result, may_call, bytes_of, given}
+use Rattle.c_memory.specs.MeaningRows.{first_accesses, immediate, pointer_among, arguments, access_at, is_access, write_one, write_each, with_bytes_read, row_applied, row_made, may_call, bytes_of, given}
 use Rattle.c_memory.specs.MeaningObjects.{encoded, stored_at}
 use Rattle.neon_table.specs.declared.NeonOp.{NeonOp}
 use Rattle.neon_table.specs.Rows.{signature_of, range_of, accesses_of, access_of, eval_of}

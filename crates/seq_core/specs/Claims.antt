@@ -1,5 +1,5 @@
 -- What is claimed of sequences and of the functions that are written for them.
-use Rattle.std.specs.Prelude.{◌≡◌, ℕ, ◌<◌, ◌^◌, List, length, Option, Some}
+use Rattle.std.specs.Prelude.{◌≡◌, ◌<◌, ◌^◌, List, length, Option, Some}
 use Rattle.c_tree.specs.Tree.{Definition}
 use Rattle.c_memory.specs.declared.blocks.Block.{Block}
 use Rattle.c_memory.specs.declared.value.Value.{Value}

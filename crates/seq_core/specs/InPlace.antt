@@ -8,7 +8,7 @@ use Rattle.c_memory.specs.declared.value.Value.{Value}
 use Rattle.c_memory.specs.MeaningState.{State, Done}
 use Rattle.c_memory.specs.Meaning.{Calls, expression}
 use Rattle.seq_core.specs.Rows.{AreRows}
-use Rattle.seq_core.specs.Terms.{Sequence, Term, Terms, Param, Step, Const, Int, Call, PairOf, Half, Scalar, Convert, Choice, Shifted, ByteAt, SetByte, NoTerms, More}
+use Rattle.seq_core.specs.Terms.{Sequence, Term, Terms, Param, Const, Int, Call, PairOf, Scalar, Convert, NoTerms, More}
 use Rattle.seq_core.specs.Values.{value_of, sequence_value}
 use Rattle.seq_core.specs.Called.{rows_called}
 use Rattle.seq_core.specs.Formed.{IsFormed, WellFormed}

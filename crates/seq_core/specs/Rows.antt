@@ -1,5 +1,5 @@
 -- The Neon rows as the meaning of C takes them, and the rows that are told apart by their forms.
-use Rattle.std.specs.Prelude.{◌≡◌, ◌==◌, ℕ, List, Bool, true, false}
+use Rattle.std.specs.Prelude.{◌≡◌, ◌==◌, List, Bool, true, false}
 use Rattle.c_memory.specs.declared.value.Value.{Value}
 use Rattle.c_memory.specs.MeaningState.{State}
 use Rattle.c_memory.specs.MeaningRows.{RowTable, rows_of, row_call}
@@ -13,7 +13,7 @@ use Rattle.neon_move.specs.declared.bytes.Bytes.TheVariants.{VcreateU8}
 use Rattle.neon_move.specs.declared.halves.Halves.TheVariants.{VcombineU8}
 use Rattle.neon_move.specs.declared.places.Places.TheVariants.{VdupqNU8}
 use Rattle.neon_table.specs.declared.NeonOp.{NeonOp}
-use Rattle.neon_table.specs.Rows.{of_move, find_of, name_of, form_of, signature_of, range_of, accesses_of, access_of, eval_of}
+use Rattle.neon_table.specs.Rows.{of_move, find_of, name_of, signature_of, range_of, accesses_of, access_of, eval_of}
 
 abbrev pub table : RowTable NeonOp
 table = rows_of find_of signature_of range_of accesses_of access_of eval_of

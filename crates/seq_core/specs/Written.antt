@@ -1,10 +1,9 @@
 -- The C that is written for a term, over the expressions that stand for its parameters and steps. Every node has its type.
-use Rattle.std.specs.Prelude.{ℕ, List, [], ◌∷◌, replicate, get_or, pos, true, false, Option, None, if◌then◌else◌}
+use Rattle.std.specs.Prelude.{ℕ, List, ◌∷◌, replicate, get_or, pos, true, false, None, if◌then◌else◌}
 use Rattle.std.specs.Str.{bytes_eq}
 use Rattle.lane_core.specs.declared.number.IntType.TheVariants as int
 use Rattle.lane_core.specs.declared.number.BinOp.{BinOp}
 use Rattle.lane_core.specs.declared.number.Num.{Num}
-use Rattle.lane_core.specs.declared.vector.NeonLane.TheVariants.{U8}
 use Rattle.lane_core.specs.declared.table.ParamKind.{ParamKind}
 use Rattle.lane_core.specs.declared.table.ParamKind.TheVariants as kind
 use Rattle.lane_core.specs.Register.{lane}

@@ -1,10 +1,10 @@
 use Rattle.std.proofs.lemmas.List.{length-map}
-use Rattle.std.proofs.Common.{refl, ◌≡◌, ◌<◌, ◌^◌, ◌∙◌, ◌++◌, [], sym, ap, subst, map, length, arith}
+use Rattle.std.proofs.Common.{refl, ◌≡◌, ◌<◌, ◌^◌, ◌++◌, [], sym, subst, map, length, arith}
 use Rattle.std.specs.Prelude.{option_map, None}
-use Rattle.c_tree.specs.View.{view as view_tree, view_stmt, view_declared, view_function}
+use Rattle.c_tree.specs.View.{view as view_tree, view_stmt, view_declared}
 use Rattle.seq_core.specs.View.{view, view_seq}
 use Rattle.seq_core.specs.Written.{pen}
-use Rattle.seq_core.specs.Functions.{named, object_of, params_from, start, returned, result_type, function_of}
+use Rattle.seq_core.specs.Functions.{named, object_of, params_from, start, returned, result_type}
 use Rattle.seq_core.specs.Listed.{names_after, statements_after}
 use Rattle.seq_core.specs.Claims.{DoesTheSame}
 use Rattle.seq_core.proofs.Bodies.{call_leads}
