@@ -19,7 +19,7 @@ numbered f m zero i l = absurd (omega (arith, l))
 numbered f m (suc n) zero l = let e : m ≡ m + 0 = omega arith in ap f e
 numbered f m (suc n) (suc i) l = let e : m + 1 + i ≡ m + suc i = omega arith in numbered f (m + 1) n i (omega (arith, l)) ∙ ap f e
 
-pick_there : (f : ℕ → Pick) (i : ℕ) → i < 16 → get_or (picks f) i pick.Zero ≡ f i
+pub pick_there : (f : ℕ → Pick) (i : ℕ) → i < 16 → get_or (picks f) i pick.Zero ≡ f i
 pick_there f i l = let e : 0 + i ≡ i = omega arith in numbered f 0 16 i l ∙ ap f e
 
 -- a register whose bytes are those of the picks

@@ -1,3 +1,5 @@
 pub mod Laws
 pub mod Operands
+pub mod Plans
 pub mod Selections
+pub mod Sequences

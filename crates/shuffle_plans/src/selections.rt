@@ -3,6 +3,7 @@
 ghost use Rattle.std.specs.Prelude.{◌≡◌, ◌≤◌, ◌<◌, ◌*◌, ◌/◌};
 ghost use Rattle.lane_core.specs.Register.{IsWidth};
 ghost use Rattle.intel_table.specs.Rows.{form_of};
+ghost use Rattle.shuffle_plans.specs.Operands.{picks};
 ghost use Rattle.shuffle_plans.specs.Selections.{low_pick, interleave_pick, dword_pick, low_word_pick, high_word_pick, up_pick, down_pick, align_pick, broadcast_pick, qword_byte, qword_pick, one_pick, two_pick, one_imm_pick, two_imm_pick, across_pick, pick_of, is_shuffle, picked_at, selection_of};
 ghost use Rattle.intel_lanes.specs.Lanes.{bytes_of};
 
@@ -223,19 +224,13 @@ fn picked_at(form: Form, imm: u16, half: u8, i: u8) -> Pick
     pick_of(form, imm, half, i).unwrap_or(Pick::Zero)
 }
 
-/// Which bytes of its operands a shuffle row takes with this immediate, for each of the 16 bytes of a block of its result: the low block of 32 bytes is
-/// `half` 0. None where the row is no shuffle. The operands are the same blocks of the row's registers; `_mm256_permute4x64_epi64` has the low and the
-/// high block of its one register.
-pub fn selection(op: IntelOp, imm: u16, half: u8) -> Option<[Pick; 16]>
+/// The bytes of a block of the row's result.
+pub fn picked(form: Form, imm: u16, half: u8) -> [Pick; 16]
     requires { half ≤ 1 }
-    ensures { result ≡ selection_of (form_of op) imm half }
+    ensures { result ≡ picks (picked_at form imm half) }
 {
-    let form = form(op);
-    if !is_shuffle(form) {
-        return None;
-    }
     let pick = |i: u8| picked_at(form, imm, half, i);
-    Some([
+    [
         pick(0),
         pick(1),
         pick(2),
@@ -252,5 +247,19 @@ pub fn selection(op: IntelOp, imm: u16, half: u8) -> Option<[Pick; 16]>
         pick(13),
         pick(14),
         pick(15),
-    ])
+    ]
+}
+
+/// Which bytes of its operands a shuffle row takes with this immediate, for each of the 16 bytes of a block of its result: the low block of 32 bytes is
+/// `half` 0. None where the row is no shuffle. The operands are the same blocks of the row's registers; `_mm256_permute4x64_epi64` has the low and the
+/// high block of its one register.
+pub fn selection(op: IntelOp, imm: u16, half: u8) -> Option<[Pick; 16]>
+    requires { half ≤ 1 }
+    ensures { result ≡ selection_of (form_of op) imm half }
+{
+    let form = form(op);
+    if !is_shuffle(form) {
+        return None;
+    }
+    Some(picked(form, imm, half))
 }
