@@ -1,12 +1,11 @@
 -- Each formula of a shuffle row has the bytes of its selection.
-use Rattle.std.proofs.Common.{◌≡◌, ℕ, ◌+◌, ◌-◌, ◌*◌, ◌/◌, ◌%◌, ◌^◌, ◌<◌, ◌≤◌, List, ◌++◌, length, get_or, take, drop, refl, ap, sym, ◌∙◌, arith, rules, inl, inr, Bool, true, false}
+use Rattle.std.proofs.Common.{◌≡◌, ℕ, ◌+◌, ◌-◌, ◌*◌, ◌/◌, ◌%◌, ◌^◌, ◌<◌, ◌≤◌, List, ◌++◌, length, get_or, refl, ap, ◌∙◌, arith, rules, inl, inr, Bool, true, false}
 use Rattle.std.specs.Prelude.{nat_lt, nat_le, if◌then◌else◌, ◌==◌}
 use Rattle.std.proofs.lemmas.Bool.{cases_lt}
 use Rattle.std.proofs.lemmas.Nat.{mod_below}
-use Rattle.lane_core.specs.Register.{IsWidth, IsRegister, Bytes, lane, build}
+use Rattle.lane_core.specs.Register.{IsWidth, Bytes, lane, build}
 use Rattle.lane_core.proofs.Lanes.{width_pos, lane_of_byte}
 use Rattle.intel_lanes.specs.Blocks.{move_low, interleave, shuffle_dwords, shuffle_low, shuffle_high, bytes_up, bytes_down, align_right}
-use Rattle.price_choice.specs.declared.forms.Pick.{Pick}
 use Rattle.price_choice.specs.declared.forms.Pick.TheVariants.{A, B, Zero}
 use Rattle.shuffle_plans.specs.Operands.{byte_picked, selected, picks}
 use Rattle.shuffle_plans.specs.Selections.{low_pick, interleave_pick, dword_pick, low_word_pick, high_word_pick, up_pick, down_pick, align_pick, broadcast_pick}

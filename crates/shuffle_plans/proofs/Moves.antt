@@ -1,12 +1,11 @@
 -- Registers whose bytes are those of a selection.
-use Rattle.std.proofs.Common.{◌≡◌, ℕ, zero, suc, ◌+◌, ◌-◌, ◌*◌, ◌/◌, ◌%◌, ◌^◌, ◌<◌, ◌≤◌, List, ◌++◌, length, map, get_or, take, drop, refl, ap, sym, subst, ◌∙◌, arith, rules, ◌⊎◌, inl, inr, Bool, true, false}
-use Rattle.std.specs.Prelude.{nat_lt, if◌then◌else◌, ◌==◌}
+use Rattle.std.proofs.Common.{◌≡◌, ℕ, zero, suc, ◌+◌, ◌-◌, ◌*◌, ◌/◌, ◌%◌, ◌^◌, ◌<◌, ◌≤◌, List, ◌++◌, length, map, get_or, take, drop, refl, ap, sym, ◌∙◌, arith, inl, inr}
 use Rattle.std.proofs.lemmas.Bool.{cases_lt}
 use Rattle.std.proofs.lemmas.Nat.{mod_below}
 use Rattle.std.proofs.lemmas.Grind.{common_steps}
 use Rattle.std.proofs.Math.Nat.{mod-eq_of_lt, mul-le-mul_right, zero-div, zero-mod}
 use Rattle.std.proofs.Math.Seq.{take-append_seam, drop-append_seam}
-use Rattle.lane_core.specs.Register.{IsWidth, IsRegister, Bytes, lane, build}
+use Rattle.lane_core.specs.Register.{IsWidth, Bytes, lane, build}
 use Rattle.lane_core.proofs.Lanes.{width_pos, lanes_fill, lane_below, length-build, Bytes-build, lane-build, build_same, build-lane}
 use Rattle.lane_core.proofs.Laws.{byte_of_lane, lanes_by_bytes}
 use Rattle.price_choice.specs.declared.forms.Pick.{Pick}

@@ -1,7 +1,7 @@
 -- What holds of the sequences of shuffle rows.
-use Rattle.std.proofs.Common.{◌≡◌, ℕ, zero, suc, ◌/◌, ◌<◌, ◌≤◌, List, [], ◌∷◌, ◌++◌, length, get_or, refl, ap, sym, subst, ◌∙◌, arith, rules, Bool, true, false, inl, inr, Some, option_map}
+use Rattle.std.proofs.Common.{◌≡◌, ℕ, zero, suc, ◌/◌, ◌<◌, ◌≤◌, List, [], ◌∷◌, ◌++◌, length, get_or, refl, ap, sym, subst, ◌∙◌, arith, Bool, true, false, inl, inr, Some, option_map}
 use Rattle.std.specs.Prelude.{if◌then◌else◌, ◌&&◌, ◌||◌, not, IfOk, Result, Ok, Err}
-use Rattle.lane_core.specs.Register.{IsWidth, IsRegister, build}
+use Rattle.lane_core.specs.Register.{IsWidth, IsRegister}
 use Rattle.lane_core.specs.declared.vector.NeonLane.TheVariants.{U8, U16, U32, U64}
 use Rattle.lane_core.specs.declared.table.Arg.{Arg}
 use Rattle.lane_core.specs.declared.table.Arg.TheVariants as arg
@@ -43,8 +43,8 @@ use Rattle.seq_core.specs.Called.{is_plain, are_constants, is_counted, rows_in, 
 use Rattle.shuffle_plans.specs.Operands.{selected, IsPlace, picks, block_of, first_operand, second_operand}
 use Rattle.shuffle_plans.specs.Selections.{is_shuffle, picked_at}
 use Rattle.shuffle_plans.specs.Laws.{PicksArePlaces}
-use Rattle.shuffle_plans.specs.Sequences.{lanes_of, row_of, constant_of, into, back, side_term, index_in, index_in_pair, indices, one_call, two_call, form_term, sequence_of, calls_of}
-use Rattle.shuffle_plans.specs.Plans.{has_two, operands_of, plan_by, IsChoice, IsPlannedBy, IsPlan, GivesTheBlock, FormsGive}
+use Rattle.shuffle_plans.specs.Sequences.{lanes_of, row_of, constant_of, into, back, side_term, index_in, index_in_pair, indices, form_term, sequence_of, calls_of}
+use Rattle.shuffle_plans.specs.Plans.{has_two, plan_by, IsChoice, IsPlannedBy, IsPlan, GivesTheBlock, FormsGive}
 use Rattle.shuffle_plans.proofs.Moves.{pick_there}
 use Rattle.shuffle_plans.proofs.Rows.{selections_are_rows}
 use Rattle.shuffle_plans.proofs.Calls.{by_width, by_two, by_group}

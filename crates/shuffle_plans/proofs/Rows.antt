@@ -1,6 +1,6 @@
 -- Each block of a shuffle row's value has the bytes of the row's selection.
-use Rattle.std.proofs.Common.{◌≡◌, ℕ, zero, suc, ◌+◌, ◌-◌, ◌*◌, ◌/◌, ◌%◌, ◌^◌, ◌<◌, ◌≤◌, List, [], ◌∷◌, ◌++◌, length, get_or, take, drop, refl, ap, sym, ◌∙◌, arith, rules, inl, inr, Bool, true, false}
-use Rattle.std.specs.Prelude.{nat_lt, if◌then◌else◌, ◌==◌}
+use Rattle.std.proofs.Common.{◌≡◌, ℕ, zero, suc, ◌+◌, ◌-◌, ◌*◌, ◌/◌, ◌%◌, ◌^◌, ◌<◌, ◌≤◌, List, [], ◌∷◌, ◌++◌, length, get_or, take, drop, refl, ap, sym, ◌∙◌, arith, rules, inl, inr, true, false}
+use Rattle.std.specs.Prelude.{nat_lt}
 use Rattle.std.proofs.lemmas.Bool.{cases_lt}
 use Rattle.std.proofs.lemmas.Nat.{mod_below}
 use Rattle.std.proofs.lemmas.List.{get_or-take, get_or-drop}
@@ -20,7 +20,7 @@ use Rattle.intel_lanes.specs.declared.blocks.OneImm.TheVariants as one_imm
 use Rattle.intel_lanes.specs.declared.blocks.TwoImm.TheVariants as two_imm
 use Rattle.intel_lanes.specs.Lanes.{bytes_of}
 use Rattle.intel_lanes.specs.Laws.{width_is}
-use Rattle.intel_lanes.specs.Blocks.{one_of, two_of, one_imm_of, two_imm_of, align_right, broadcast}
+use Rattle.intel_lanes.specs.Blocks.{one_of, two_of, one_imm_of, align_right, broadcast}
 use Rattle.intel_forms.specs.declared.sizes.Size.{Size}
 use Rattle.intel_forms.specs.declared.sizes.Size.TheVariants.{Xmm, Ymm}
 use Rattle.intel_forms.specs.declared.across.Across.TheVariants as across
@@ -30,7 +30,6 @@ use Rattle.intel_forms.specs.Sizes.{register}
 use Rattle.intel_forms.specs.Across.{permute_qwords}
 use Rattle.intel_forms.specs.Forms.{signature_of, value_of, one_value, two_value, one_imm_value, two_imm_value, across_blocks_value}
 use Rattle.price_choice.specs.declared.forms.Pick.{Pick}
-use Rattle.price_choice.specs.declared.forms.Pick.TheVariants.{A, B, Zero}
 use Rattle.shuffle_plans.specs.Operands.{byte_picked, selected, picks, block, block_of, first_operand, second_operand}
 use Rattle.shuffle_plans.specs.Selections.{low_pick, interleave_pick, dword_pick, low_word_pick, high_word_pick, up_pick, down_pick, align_pick, broadcast_pick, qword_byte, qword_pick, is_shuffle, picked_at}
 use Rattle.shuffle_plans.proofs.Moves.{picked_lanes, moved_byte, selected_length, low_block, high_block}

@@ -1,5 +1,5 @@
 -- Where a form gives a selection, its sequence gives the selection's bytes, for all registers.
-use Rattle.std.proofs.Common.{◌≡◌, ℕ, zero, suc, ◌+◌, ◌-◌, ◌*◌, ◌/◌, ◌%◌, ◌^◌, ◌<◌, ◌≤◌, List, [], ◌∷◌, ◌++◌, length, get_or, refl, ap, sym, subst, ◌∙◌, arith, rules, Bool, true, false, inl, inr, ◌⊎◌, length-append, replicate, Option, Some, None, option_map}
+use Rattle.std.proofs.Common.{◌≡◌, ℕ, zero, suc, ◌+◌, ◌-◌, ◌*◌, ◌/◌, ◌%◌, ◌^◌, ◌<◌, ◌≤◌, List, [], ◌∷◌, ◌++◌, length, get_or, refl, ap, sym, subst, ◌∙◌, arith, rules, Bool, true, false, inl, inr, length-append, replicate, Option, Some, option_map}
 use Rattle.std.specs.Prelude.{nat_lt, if◌then◌else◌, ◌&&◌}
 use Rattle.std.specs.Option.{option_and_then}
 use Rattle.std.proofs.lemmas.Bool.{cases_lt}
@@ -7,7 +7,7 @@ use Rattle.std.proofs.lemmas.Grind.{common_steps}
 use Rattle.std.proofs.Math.Nat.{mod-eq_of_lt}
 use Rattle.lane_core.specs.Register.{IsWidth, IsRegister, Bytes, lane, build}
 use Rattle.lane_core.specs.declared.vector.NeonLane.{NeonLane}
-use Rattle.lane_core.specs.declared.vector.NeonLane.TheVariants.{U8, U16, U32, U64}
+use Rattle.lane_core.specs.declared.vector.NeonLane.TheVariants.{U8, U16, U32}
 use Rattle.lane_core.proofs.Lists.{Bytes-append}
 use Rattle.lane_core.proofs.Lanes.{width_pos, lanes_fill, build_same, build-lane, lane-build, lane_of_byte}
 use Rattle.lane_core.proofs.Laws.{lanes_by_bytes, IsRegister-zeros}

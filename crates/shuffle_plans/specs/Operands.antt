@@ -1,5 +1,5 @@
 -- The bytes of a selection, and the operands from which they are taken.
-use Rattle.std.specs.Prelude.{ℕ, ◌<◌, ◌==◌, List, [], ◌∷◌, map, take, drop, replicate, get_or, if◌then◌else◌}
+use Rattle.std.specs.Prelude.{ℕ, ◌<◌, ◌==◌, List, [], ◌∷◌, map, take, drop, get_or, if◌then◌else◌}
 use Rattle.lane_core.specs.Register.{build}
 use Rattle.lane_core.specs.declared.table.Arg.{Arg}
 use Rattle.lane_core.specs.declared.table.Arg.TheVariants as arg

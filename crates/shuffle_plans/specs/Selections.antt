@@ -1,6 +1,6 @@
 -- The selections of shuffle rows: for each byte of a block of 16 bytes of the result, the byte of the first operand A or of the second operand B
 -- that it is, or zero, by the "Operation" of the row in the Intel Intrinsics Guide.
-use Rattle.std.specs.Prelude.{ℕ, ◌+◌, ◌-◌, ◌*◌, ◌/◌, ◌%◌, ◌^◌, nat_lt, nat_le, ◌==◌, List, Bool, true, false, Option, Some, None, is_some, unwrap_or, if◌then◌else◌}
+use Rattle.std.specs.Prelude.{ℕ, ◌+◌, ◌-◌, ◌*◌, ◌/◌, ◌%◌, ◌^◌, nat_lt, nat_le, ◌==◌, List, Bool, Option, Some, None, is_some, unwrap_or, if◌then◌else◌}
 use Rattle.intel_lanes.specs.declared.blocks.One.{One}
 use Rattle.intel_lanes.specs.declared.blocks.One.TheVariants as one
 use Rattle.intel_lanes.specs.declared.blocks.Two.{Two}

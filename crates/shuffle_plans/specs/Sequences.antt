@@ -3,7 +3,6 @@ use Rattle.std.specs.Prelude.{ℕ, ◌+◌, ◌==◌, List, [], ◌∷◌, repli
 use Rattle.lane_core.specs.Register.{build}
 use Rattle.lane_core.specs.declared.vector.NeonLane.{NeonLane}
 use Rattle.lane_core.specs.declared.vector.NeonLane.TheVariants.{U8, U16, U32, U64}
-use Rattle.c_tree.specs.declared.types.CType.{CType}
 use Rattle.neon_move.specs.declared.MoveOp.{MoveOp}
 use Rattle.neon_move.specs.declared.MoveOp.TheVariants as op
 use Rattle.neon_move.specs.declared.permuting.Permuting.{Permuting}
