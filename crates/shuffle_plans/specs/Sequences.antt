@@ -127,9 +127,8 @@ index_in (pick.B k) = k
 index_in pick.Zero = 255
 
 abbrev pub index_in_pair : Pick → ℕ
-index_in_pair (pick.A k) = k
 index_in_pair (pick.B k) = 16 + k
-index_in_pair pick.Zero = 255
+index_in_pair p = index_in p
 
 -- the vector of indices
 unfoldable pub indices : (Pick → ℕ) → List Pick → List ℕ

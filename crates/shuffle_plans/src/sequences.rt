@@ -199,9 +199,8 @@ fn index_in_pair(p: Pick) -> u64
     ensures { result ≡ index_in_pair p }
 {
     match p {
-        Pick::A(k) => k as u64,
         Pick::B(k) => 16 + k as u64,
-        Pick::Zero => 255,
+        _ => index_in(p),
     }
 }
 
