@@ -9,6 +9,7 @@ use Rattle.lane_core.specs.Table.{Fits, FitsKind, params_of, InImmRange}
 use Rattle.lane_core.proofs.Laws.{IsRegister-build, IsRegister-low, IsRegister-high, IsRegister-zeros}
 use Rattle.c_tree.specs.declared.types.CType.{CType}
 use Rattle.c_memory.specs.declared.value.Value.{Value}
+use Rattle.intel_lanes.specs.declared.blocks.TwoImm.TheVariants as two_imm
 use Rattle.intel_forms.specs.declared.sizes.Size.{Size}
 use Rattle.intel_forms.specs.declared.sizes.Size.TheVariants.{Xmm, Ymm}
 use Rattle.intel_forms.specs.declared.across.Across.TheVariants.{PermuteQwords}
@@ -44,7 +45,7 @@ use Rattle.shuffle_plans.specs.Operands.{selected, IsPlace, picks, block_of, fir
 use Rattle.shuffle_plans.specs.Selections.{is_shuffle, picked_at}
 use Rattle.shuffle_plans.specs.Laws.{PicksArePlaces}
 use Rattle.shuffle_plans.specs.Sequences.{lanes_of, row_of, constant_of, into, back, side_term, index_in, index_in_pair, indices, form_term, sequence_of, calls_of}
-use Rattle.shuffle_plans.specs.Plans.{has_two, plan_by, IsChoice, IsPlannedBy, IsPlan, GivesTheBlock, FormsGive}
+use Rattle.shuffle_plans.specs.Plans.{has_two, plan_by, IsChoice, IsPlannedBy, IsPlan, GivesTheBlock, GivesTheRow, FormsGive}
 use Rattle.shuffle_plans.proofs.Moves.{pick_there}
 use Rattle.shuffle_plans.proofs.Rows.{selections_are_rows}
 use Rattle.shuffle_plans.proofs.Calls.{by_width, by_two, by_group}
@@ -105,6 +106,15 @@ block_value law r imm half f s l g h args fit =
     let q = registers r half args s l fit in
     either_value (has_two r) f (picks (picked_at r imm half)) (first_operand r half args) (second_operand r half args) (same_operand r half args s) g h refl (places_there law r imm half l) q.0 q.1
     ∙ ap (λ x. Some (arg.R16 x)) (sym (selections_are_rows r args imm half s fit l))
+
+-- a row of 128 bits has its vectors as operands, and its value is the block
+whole_value : (r : Row) (imm half : ℕ) (q : Sequence) → is_shuffle r ≡ true → GivesTheBlock r imm half q → GivesTheRow r imm q
+whole_value (row.One Xmm o) imm half q s g (arg.R16 a ∷ []) w fit = g (arg.R16 a ∷ []) fit
+whole_value (row.OneImm Xmm o) imm half q s g (arg.R16 a ∷ arg.Nothing ∷ []) w fit = g (arg.R16 a ∷ arg.Nothing ∷ []) fit
+whole_value (row.Broadcast Xmm width) imm half q s g (arg.R16 a ∷ []) w fit = g (arg.R16 a ∷ []) fit
+whole_value (row.Two Xmm o) imm half q s g (arg.R16 a ∷ arg.R16 b ∷ []) w fit = g (arg.R16 a ∷ arg.R16 b ∷ []) fit
+whole_value (row.TwoImm Xmm two_imm.AlignRight) imm half q s g (arg.R16 a ∷ arg.R16 b ∷ arg.Nothing ∷ []) w fit = g (arg.R16 a ∷ arg.R16 b ∷ arg.Nothing ∷ []) fit
+whole_value _ imm half q s g _ w fit = absurd (grind (arith, s, w, fit))
 
 -- ---- types and calls
 
@@ -278,6 +288,7 @@ choice_form stated r imm half f c =
 pub record Holds (stated : List ℕ) (r : Row) (imm half : ℕ) (q : Sequence) : Type 0 where
   pub choice : IsPlan stated r imm half q
   pub value : GivesTheBlock r imm half q
+  pub whole : GivesTheRow r imm q
   pub formed : WellFormed q
   pub unmarked : plain q ≡ true
   pub one : length (rows_called q) ≤ 1
@@ -289,6 +300,7 @@ plan_holds law stated r imm half f q s l c e =
     subst (Holds stated r imm half) (sym e) (record {
       choice = (f, c, refl, h.2);
       value = block_value law r imm half f s l p.0 p.1;
+      whole = whole_value r imm half (plan_by f r imm half) s (block_value law r imm half f s l p.0 p.1);
       formed = h.0;
       unmarked = h.1;
       one = subst (λ xs. length xs ≤ 1) (sym h.2) (few f);

@@ -4,6 +4,7 @@ use Rattle.lane_core.specs.Register.{IsRegister}
 use Rattle.lane_core.specs.declared.table.Arg.{Arg}
 use Rattle.lane_core.specs.declared.table.Arg.TheVariants as arg
 use Rattle.lane_core.specs.Table.{Fits}
+use Rattle.intel_forms.specs.declared.sizes.Size.TheVariants.{Xmm}
 use Rattle.intel_forms.specs.declared.across.Across.TheVariants.{PermuteQwords}
 use Rattle.intel_forms.specs.declared.forms.Form.{Form as Row}
 use Rattle.intel_forms.specs.declared.forms.Form.TheVariants as row
@@ -52,6 +53,25 @@ IsPlan stated r imm half s = (f : Form) × IsChoice stated r imm half f × (s �
 -- the value is the block of the row's value, for all arguments
 abbrev pub GivesTheBlock : Row → ℕ → ℕ → Sequence → Type 0
 GivesTheBlock r imm half s = (args : List Arg) → Fits (signature_of r) args → evaluated s (operands_of r half args) ≡ Some (arg.R16 (block_of half (value_of r args imm)))
+
+-- rows of 128 bits, whose result is one block
+abbrev pub is_one_block : Row → Bool
+is_one_block (row.One Xmm op) = true
+is_one_block (row.Two Xmm op) = true
+is_one_block (row.OneImm Xmm op) = true
+is_one_block (row.TwoImm Xmm op) = true
+is_one_block (row.Broadcast Xmm width) = true
+is_one_block _ = false
+
+-- the arguments but the one in the place of the immediate
+abbrev pub vectors_of : List Arg → List Arg
+vectors_of [] = []
+vectors_of (arg.Nothing ∷ rest) = vectors_of rest
+vectors_of (x ∷ rest) = x ∷ vectors_of rest
+
+-- over the row's own arguments the value is the row's value
+abbrev pub GivesTheRow : Row → ℕ → Sequence → Type 0
+GivesTheRow r imm s = (args : List Arg) → is_one_block r ≡ true → Fits (signature_of r) args → evaluated s (vectors_of args) ≡ Some (value_of r args imm)
 
 -- where a form of the list gives a selection, its sequence gives the selection's bytes, for all registers
 abbrev pub FormsGive : Type 0

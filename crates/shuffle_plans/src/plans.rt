@@ -11,7 +11,7 @@ ghost use Rattle.seq_core.specs.Values.{evaluated};
 ghost use Rattle.seq_core.specs.Called.{rows_called, plain};
 ghost use Rattle.shuffle_plans.specs.Operands.{block_of};
 ghost use Rattle.shuffle_plans.specs.Selections.{is_shuffle};
-ghost use Rattle.shuffle_plans.specs.Plans.{has_two, operands_of, IsPlannedBy, IsPlan};
+ghost use Rattle.shuffle_plans.specs.Plans.{has_two, operands_of, is_one_block, vectors_of, IsPlannedBy, IsPlan};
 
 use crate::laws::selections_are_rows;
 use crate::selections::picked;
@@ -49,6 +49,7 @@ pub fn plan<P: Fn(FormKind) -> u32>(
     requires block { half ≤ 1 }
     ensures choice { IfOk result (λ s. IsPlan chooser.now.stated (form_of op) imm half (view_seq s)) }
     ensures value { IfOk result (λ s. (args : List Arg) → Fits (signature_of op) args → evaluated (view_seq s) (operands_of (form_of op) half args) ≡ Some (arg.R16 (block_of half (eval_of op args imm)))) }
+    ensures whole { IfOk result (λ s. (args : List Arg) → is_one_block (form_of op) ≡ true → Fits (signature_of op) args → evaluated (view_seq s) (vectors_of args) ≡ Some (eval_of op args imm)) }
     ensures formed { IfOk result (λ s. WellFormed (view_seq s)) }
     ensures unmarked { IfOk result (λ s. plain (view_seq s) ≡ true) }
     ensures one_call { IfOk result (λ s. length (rows_called (view_seq s)) ≤ 1) }
