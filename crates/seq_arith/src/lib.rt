@@ -1,0 +1,8 @@
+//! Sequences of Neon calls for the rows that compute lane by lane on 128 bits.
+#![tactic(auto)]
+
+mod calls;
+mod plans;
+mod rows;
+
+pub use plans::{is_arithmetic, plan};

@@ -1,0 +1,160 @@
+//! The sequence of each row.
+
+ghost use Rattle.std.specs.Prelude.{◌≡◌, ◌≤◌, ◌*◌, ℕ, List, map, length, IfOk, Some, true};
+ghost use Rattle.lane_core.specs.declared.table.Arg.{Arg};
+ghost use Rattle.lane_core.specs.Table.{Fits, InImmRange, params_of};
+ghost use Rattle.intel_lanes.specs.Lanes.{bytes_of};
+ghost use Rattle.intel_table.specs.Rows.{form_of, signature_of, range_of, eval_of};
+ghost use Rattle.neon_table.specs.Rows as neon;
+ghost use Rattle.seq_core.specs.View.{view, view_seq};
+ghost use Rattle.seq_core.specs.Values.{evaluated};
+ghost use Rattle.seq_core.specs.Formed.{WellFormed};
+ghost use Rattle.seq_core.specs.Called.{rows_called, plain};
+ghost use Rattle.seq_arith.specs.Calls.{operands};
+ghost use Rattle.seq_arith.specs.Plans.{shifted_by, sequence_of, ordered, planned_two, planned, is_arithmetic, plan_of};
+ghost use Rattle.seq_arith.specs.Listed.{listed};
+
+use crate::calls::{on_one, on_two, over_one, over_two};
+use crate::rows::{is_exchanged, pairs_row, row1, row2, shift_row};
+use intel_forms::{Form, Size};
+use intel_lanes::blocks::{One, OneImm, Two};
+use intel_lanes::lanes::{Shift, Width};
+use intel_table::IntelOp;
+use neon_table::NeonOp;
+use seq_core::{Seq, Term};
+use std::alloc::{AllocError, Global};
+
+/// A kind of sequences.
+#[derive(Clone, Copy, Debug, PartialEq, Eq)]
+enum Shape {
+    /// The row of the operand.
+    One(NeonOp),
+    /// The row of both operands.
+    Two(NeonOp),
+    /// The row of both operands, the second first.
+    Exchanged(NeonOp),
+    /// A shift by the immediate.
+    Shifted(Shift, Width),
+}
+
+/// A lane's bits.
+fn bits(width: Width) -> u16
+    ensures { result ≡ 8 * bytes_of width }
+{
+    match width {
+        Width::Byte => 8,
+        Width::Word => 16,
+        Width::Dword => 32,
+        Width::Qword => 64,
+    }
+}
+
+/// The operand shifted by a constant that isn't 0.
+fn shifted_by(alloc: Global, shift: Shift, width: Width, imm: u16) -> Result<Term, AllocError>
+    ensures { IfOk result (λ t. view t ≡ shifted_by shift width imm) }
+{
+    let row = shift_row(shift, width);
+    match shift {
+        Shift::Left | Shift::Right => {
+            if imm < bits(width) {
+                on_one(alloc, row, Term::Param(0), imm)
+            } else {
+                Ok(Term::Const([0; 16]))
+            }
+        }
+        Shift::Arithmetic => on_one(alloc, row, Term::Param(0), imm.min(bits(width))),
+    }
+}
+
+fn shifted(alloc: Global, shift: Shift, width: Width, imm: u16) -> Result<Seq, AllocError>
+    ensures { IfOk result (λ s. view_seq s ≡ sequence_of (Shape.Shifted shift width) imm) }
+{
+    if imm == 0 {
+        over_one(alloc, Term::Param(0))
+    } else {
+        over_one(alloc, shifted_by(alloc, shift, width, imm)?)
+    }
+}
+
+fn sequence(alloc: Global, shape: Shape, imm: u16) -> Result<Seq, AllocError>
+    ensures { IfOk result (λ s. view_seq s ≡ sequence_of shape imm) }
+{
+    match shape {
+        Shape::One(row) => over_one(alloc, on_one(alloc, row, Term::Param(0), 0)?),
+        Shape::Two(row) => over_two(alloc, on_two(alloc, row, Term::Param(0), Term::Param(1))?),
+        Shape::Exchanged(row) => {
+            over_two(alloc, on_two(alloc, row, Term::Param(1), Term::Param(0))?)
+        }
+        Shape::Shifted(shift, width) => shifted(alloc, shift, width, imm),
+    }
+}
+
+fn ordered(exchanged: bool, row: NeonOp) -> Shape
+    ensures { result ≡ ordered exchanged row }
+{
+    if exchanged {
+        Shape::Exchanged(row)
+    } else {
+        Shape::Two(row)
+    }
+}
+
+fn planned_two(op: Two) -> Option<Shape>
+    ensures { result ≡ planned_two op }
+{
+    match op {
+        Two::Lanes(op, width) => match row2(op, width) {
+            Some(row) => Some(ordered(is_exchanged(op), row)),
+            None => None,
+        },
+        Two::Pairs(op, width) => match pairs_row(op, width) {
+            Some(row) => Some(Shape::Two(row)),
+            None => None,
+        },
+        _ => None,
+    }
+}
+
+fn planned(form: Form) -> Option<Shape>
+    ensures { result ≡ planned form }
+{
+    match form {
+        Form::One(Size::Xmm, One::Lanes(op, width)) => match row1(op, width) {
+            Some(row) => Some(Shape::One(row)),
+            None => None,
+        },
+        Form::Two(Size::Xmm, op) => planned_two(op),
+        Form::OneImm(Size::Xmm, OneImm::Shifted(shift, width)) => Some(Shape::Shifted(
+            shift, width,
+        )),
+        _ => None,
+    }
+}
+
+/// Whether the row has its sequence here: it computes lane by lane on 128 bits, and `plan` gives the sequence.
+pub fn is_arithmetic(op: IntelOp) -> bool
+    ensures { result ≡ is_arithmetic op }
+{
+    planned(intel_table::form(op)).is_some()
+}
+
+fn listed(alloc: Global, op: IntelOp, imm: u16) -> Result<Seq, AllocError>
+    requires { is_arithmetic op ≡ true }
+    ensures { IfOk result (λ s. plan_of op imm ≡ Some (view_seq s)) }
+{
+    sequence(alloc, planned(intel_table::form(op)).unwrap(), imm)
+}
+
+/// The sequence of a row. It takes the row's vectors as `uint8x16_t` and gives one, and the immediate is part of it. The only error is want of
+/// memory.
+pub fn plan(alloc: Global, op: IntelOp, imm: u16) -> Result<Seq, AllocError>
+    requires ours { is_arithmetic op ≡ true }
+    requires range { InImmRange (range_of op) imm }
+    ensures value { IfOk result (λ s. (args : List Arg) → Fits (signature_of op) args → evaluated (view_seq s) (operands (params_of (signature_of op)) args) ≡ Some (eval_of op args imm)) }
+    ensures formed { IfOk result (λ s. WellFormed (view_seq s)) }
+    ensures ceiling { IfOk result (λ s. length (rows_called (view_seq s)) ≤ 24) }
+    ensures unmarked { IfOk result (λ s. plain (view_seq s) ≡ true) }
+    ensures one_call { (names : List (List ℕ)) → listed (form_of op) imm ≡ Some names → IfOk result (λ s. map neon.name_of (rows_called (view_seq s)) ≡ names) }
+{
+    listed(alloc, op, imm)
+}
