@@ -1,3 +1,4 @@
 pub mod Kernels
+pub mod Wide
 pub mod Values
 pub mod Shapes

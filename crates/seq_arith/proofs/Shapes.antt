@@ -25,7 +25,7 @@ use Rattle.seq_arith.specs.declared.plans.Shape.TheVariants as shape
 use Rattle.seq_arith.specs.Calls.{on_one, over_one}
 use Rattle.seq_arith.specs.Rows.{shift_row_of}
 use Rattle.seq_arith.specs.Plans.{shifted_by, sequence_of, planned_two, planned}
-use Rattle.seq_arith.specs.Listed.{one_row, listed2, listed_shift, listed}
+use Rattle.seq_arith.specs.Listed.{one_row, listed2, listed_pairs, listed_shift, listed}
 use Rattle.seq_arith.proofs.Values.{When}
 
 -- the rows have these names, where names are due
@@ -42,12 +42,20 @@ lanes1_whole _ imm = search (rules, arith) depth 14
 
 lanes2_whole : (o : Lane2) (width : Width) (imm : ℕ) → When (IsWhole (listed2 o width)) (planned_two (two.Lanes o width)) imm
 lanes2_whole op.Add Byte imm = search (rules, arith) depth 14
+lanes2_whole op.MultiplyHigh Word imm = search (rules, arith) depth 20
+lanes2_whole op.MultiplyHighUnsigned Word imm = search (rules, arith) depth 20
 lanes2_whole _ Byte imm = search (rules, arith) depth 14
 lanes2_whole _ _ imm = search (rules, arith) depth 14
 
-pairs_whole : (width : Width) (imm : ℕ) → When (IsWhole (Some (one_row (codes "vpaddq_u") width))) (planned_two (two.Pairs op.Add width)) imm
-pairs_whole Byte imm = tt
-pairs_whole _ imm = search (rules, arith) depth 14
+pairs_whole : (o : Lane2) (width : Width) (imm : ℕ) → When (IsWhole (listed_pairs o width)) (planned_two (two.Pairs o width)) imm
+pairs_whole op.Add Byte imm = tt
+pairs_whole _ Byte imm = tt
+pairs_whole _ Qword imm = tt
+pairs_whole _ _ imm = search (rules, arith) depth 20
+
+even_whole : (signs : Bool) (imm : ℕ) → When (IsWhole None) (Some (shape.EvenProducts signs)) imm
+even_whole true imm = search (rules, arith) depth 20
+even_whole false imm = search (rules, arith) depth 20
 
 -- shifts by a constant that isn't 0
 left_whole : (width : Width) (imm : ℕ) (b : Bool) → nat_lt imm (8 * bytes_of width) ≡ b
@@ -84,7 +92,9 @@ shift_whole shift.Arithmetic width (suc n) = rw (not_zero n) (arithmetic_whole w
 pub plan_whole : (f : Form) (imm : ℕ) → When (IsWhole (listed f imm)) (planned f) imm
 plan_whole (form.One Xmm (one.Lanes Absolute width)) imm = lanes1_whole width imm
 plan_whole (form.Two Xmm (two.Lanes o width)) imm = lanes2_whole o width imm
-plan_whole (form.Two Xmm (two.Pairs op.Add width)) imm = pairs_whole width imm
+plan_whole (form.Two Xmm (two.Pairs o width)) imm = pairs_whole o width imm
+plan_whole (form.Two Xmm two.MultiplyEven) imm = even_whole true imm
+plan_whole (form.Two Xmm two.MultiplyEvenUnsigned) imm = even_whole false imm
 plan_whole (form.OneImm Xmm (one_imm.Shifted s width)) imm = shift_whole s width imm
 plan_whole _ imm = tt
 

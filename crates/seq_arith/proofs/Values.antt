@@ -1,5 +1,5 @@
 -- Each sequence gives its row's value.
-use Rattle.std.proofs.Common.{◌≡◌, ℕ, zero, suc, ◌+◌, ◌-◌, ◌*◌, ◌/◌, ◌%◌, ◌^◌, ◌<◌, List, [], ◌∷◌, Bool, true, false, Option, Some, None, option_map, refl, ap, sym, subst, ◌∙◌, arith, rules}
+use Rattle.std.proofs.Common.{◌≡◌, ℕ, zero, suc, ◌+◌, ◌-◌, ◌*◌, ◌/◌, ◌%◌, ◌^◌, ◌<◌, List, [], ◌∷◌, ◌++◌, Bool, true, false, Option, Some, None, option_map, refl, ap, sym, subst, ◌∙◌, arith, rules}
 use Rattle.std.specs.Prelude.{pos, ◌+ℤ◌, ◌-ℤ◌, ◌==◌, min, nat_lt, int_lt, bit_and, replicate, if◌then◌else◌, IfOk, Result, Ok, Err}
 use Rattle.std.specs.Int.{int_shr}
 use Rattle.std.specs.Int.Bits.{and_comm}
@@ -11,7 +11,7 @@ use Rattle.lane_core.specs.declared.table.ParamKind.TheVariants as kind
 use Rattle.lane_core.specs.declared.table.Sig.{Sig}
 use Rattle.lane_core.specs.Table.{Fits, FitsKinds, params_of, signature}
 use Rattle.lane_core.proofs.Lanes.{width_pos, lanes_fill, build_same}
-use Rattle.lane_core.proofs.Laws.{map1_same, map2_same}
+use Rattle.lane_core.proofs.Laws.{map1_same, map2_same, IsRegister-build}
 use Rattle.intel_lanes.specs.declared.lanes.Width.{Width}
 use Rattle.intel_lanes.specs.declared.lanes.Width.TheVariants.{Byte, Word, Dword, Qword}
 use Rattle.intel_lanes.specs.declared.lanes.Lane1.TheVariants.{Absolute}
@@ -23,14 +23,14 @@ use Rattle.intel_lanes.specs.declared.blocks.One.TheVariants as one
 use Rattle.intel_lanes.specs.declared.blocks.Two.TheVariants as two
 use Rattle.intel_lanes.specs.declared.blocks.OneImm.TheVariants as one_imm
 use Rattle.intel_lanes.specs.Lanes.{bytes_of, lane1_of, lane2_of, shift_of}
-use Rattle.intel_lanes.specs.Blocks.{lanes1, lanes2, pairs, shifted}
-use Rattle.intel_lanes.specs.Laws.{width_is, xmm}
+use Rattle.intel_lanes.specs.Blocks.{lanes1, lanes2, pairs, shifted, multiply_even, multiply_even_unsigned}
+use Rattle.intel_lanes.specs.Laws.{width_is, word, xmm}
 use Rattle.intel_forms.specs.declared.sizes.Size.TheVariants.{Xmm}
 use Rattle.intel_forms.specs.declared.forms.Form.{Form}
 use Rattle.intel_forms.specs.declared.forms.Form.TheVariants as form
 use Rattle.intel_forms.specs.Forms.{signature_of, value_of, one_value, two_value, one_imm_value}
 use Rattle.neon_elements.specs.Elements.{signed_sat, unsigned_sat, abs_of}
-use Rattle.neon_elements.specs.Vectors.{each1, each2, compared, pair_sums, shifted_left, shifted_right}
+use Rattle.neon_elements.specs.Vectors.{each1, each2, compared, pair_sums, shifted_left, shifted_right, unzipped}
 use Rattle.seq_core.specs.declared.terms.Seq.{Seq}
 use Rattle.seq_core.specs.View.{view_seq}
 use Rattle.seq_core.specs.Terms.{Sequence, Param, Const}
@@ -40,6 +40,7 @@ use Rattle.seq_arith.specs.declared.plans.Shape.TheVariants as shape
 use Rattle.seq_arith.specs.Calls.{operands, on_one, over_one}
 use Rattle.seq_arith.specs.Rows.{shift_row_of}
 use Rattle.seq_arith.specs.Plans.{shifted_by, sequence_of, planned_two, planned}
+use Rattle.seq_arith.proofs.Wide.{uneven, high_signed, high_unsigned, even_signed, even_unsigned}
 use Rattle.seq_arith.proofs.Kernels.{saturate_is, saturate_unsigned_is, average_is, min_is, min_unsigned_is, max_unsigned_is, absolute_is, none_shifted, right_is, arithmetic_is}
 
 -- ---- registers
@@ -136,6 +137,8 @@ lanes2_give op.Average Byte imm = λ a b h k. as_register (average 1 a b h k)
 lanes2_give op.Average Word imm = λ a b h k. as_register (average 2 a b h k)
 lanes2_give op.MultiplyLow Word imm = λ a b h k. refl
 lanes2_give op.MultiplyLow Dword imm = λ a b h k. refl
+lanes2_give op.MultiplyHigh Word imm = λ a b h k. as_register (high_signed a b h k)
+lanes2_give op.MultiplyHighUnsigned Word imm = λ a b h k. as_register (high_unsigned a b h k)
 lanes2_give op.Min Byte imm = λ a b h k. as_register (least 1 a b h k)
 lanes2_give op.Min Word imm = λ a b h k. as_register (least 2 a b h k)
 lanes2_give op.Min Dword imm = λ a b h k. as_register (least 4 a b h k)
@@ -162,10 +165,23 @@ lanes2_give op.Less Dword imm = λ a b h k. as_register (less 4 a b)
 lanes2_give op.Less Qword imm = λ a b h k. as_register (less 8 a b)
 lanes2_give _ _ imm = tt
 
+-- the even words of two vectors, or the odd ones
+abbrev lanes_from : ℕ → List ℕ → List ℕ → List ℕ
+lanes_from part a b = build 2 8 (λ e. lane 2 (a ++ b) (2 * e + part))
+
+half_of_lanes : (part : ℕ) (a b : List ℕ) → IsRegister 16 (lanes_from part a b)
+half_of_lanes part a b = IsRegister-build 2 16 (λ e. lane 2 (a ++ b) (2 * e + part)) word xmm
+
 pairs_give : (o : Lane2) (width : Width) (imm : ℕ) → Gives2 (planned_two (two.Pairs o width)) imm (pairs o (bytes_of width))
-unfolding pairs pair_sums
+unfolding pairs pair_sums each2 unzipped
 pairs_give op.Add Word imm = λ a b h k. refl
 pairs_give op.Add Dword imm = λ a b h k. refl
+pairs_give op.Sub Word imm = λ a b h k. as_register (uneven 2 16 (lane2_of op.Sub 2) a b h.bytes k.bytes)
+pairs_give op.Sub Dword imm = λ a b h k. as_register (uneven 4 16 (lane2_of op.Sub 4) a b h.bytes k.bytes)
+pairs_give op.AddSaturate Word imm = λ a b h k.
+    as_register (add_saturate 2 (lanes_from 0 a b) (lanes_from 1 a b) (half_of_lanes 0 a b) (half_of_lanes 1 a b) ∙ uneven 2 16 (lane2_of op.AddSaturate 2) a b h.bytes k.bytes)
+pairs_give op.SubSaturate Word imm = λ a b h k.
+    as_register (sub_saturate 2 (lanes_from 0 a b) (lanes_from 1 a b) (half_of_lanes 0 a b) (half_of_lanes 1 a b) ∙ uneven 2 16 (lane2_of op.SubSaturate 2) a b h.bytes k.bytes)
 pairs_give _ _ imm = tt
 
 -- ---- shifts
@@ -298,6 +314,8 @@ pub plan_due : (f : Form) (imm : ℕ) → Due (planned f) imm (signature_of f) (
 plan_due (form.One Xmm (one.Lanes Absolute width)) imm = one_due (planned (form.One Xmm (one.Lanes Absolute width))) imm (lanes1 Absolute (bytes_of width)) (lanes1_give width imm)
 plan_due (form.Two Xmm (two.Lanes o width)) imm = two_due (planned_two (two.Lanes o width)) imm (lanes2 o (bytes_of width)) (lanes2_give o width imm)
 plan_due (form.Two Xmm (two.Pairs o width)) imm = two_due (planned_two (two.Pairs o width)) imm (pairs o (bytes_of width)) (pairs_give o width imm)
+plan_due (form.Two Xmm two.MultiplyEven) imm = two_due (Some (shape.EvenProducts true)) imm multiply_even (λ a b h k. as_register (even_signed a b h k))
+plan_due (form.Two Xmm two.MultiplyEvenUnsigned) imm = two_due (Some (shape.EvenProducts false)) imm multiply_even_unsigned (λ a b h k. as_register (even_unsigned a b h k))
 plan_due (form.OneImm Xmm (one_imm.Shifted s width)) imm = imm_due (Some (shape.Shifted s width)) imm (shifted s (bytes_of width) imm) (shift_gives s width imm)
 plan_due _ imm = tt
 

@@ -49,6 +49,7 @@ taken (form.Compared op t) = t
 taken (form.ShiftLeft t) = t
 taken (form.ShiftRight t) = t
 taken (form.PairSums t) = t
+taken (form.Permuted op t) = t
 taken f = U8
 
 abbrev pub gives : Form → NeonLane

@@ -46,6 +46,10 @@ listed2 op.Greater width = Some (one_row (codes "vcgtq_s") width)
 listed2 op.Less width = Some (one_row (codes "vcgtq_s") width)
 listed2 _ width = None
 
+abbrev pub listed_pairs : Lane2 → Width → Option (List (List ℕ))
+listed_pairs op.Add width = Some (one_row (codes "vpaddq_u") width)
+listed_pairs _ width = None
+
 -- none for a shift by 0, or by the width or more where that leaves zeros
 abbrev pub listed_shift : Shift → Width → ℕ → List (List ℕ)
 listed_shift Left width imm = if imm == 0 then [] else (if nat_lt imm (8 * bytes_of width) then one_row (codes "vshlq_n_u") width else [])
@@ -55,6 +59,6 @@ listed_shift Arithmetic width imm = if imm == 0 then [] else one_row (codes "vsh
 abbrev pub listed : Form → ℕ → Option (List (List ℕ))
 listed (form.One Xmm (one.Lanes Absolute width)) imm = Some (one_row (codes "vabsq_s") width)
 listed (form.Two Xmm (two.Lanes op width)) imm = listed2 op width
-listed (form.Two Xmm (two.Pairs op.Add width)) imm = Some (one_row (codes "vpaddq_u") width)
+listed (form.Two Xmm (two.Pairs o width)) imm = listed_pairs o width
 listed (form.OneImm Xmm (one_imm.Shifted shift width)) imm = Some (listed_shift shift width imm)
 listed _ imm = None

@@ -1,6 +1,9 @@
 -- The sequence of each row, and the rows that have one here.
-use Rattle.std.specs.Prelude.{ℕ, ◌*◌, ◌==◌, min, nat_lt, replicate, Bool, Option, Some, None, option_map, is_some, if◌then◌else◌}
+use Rattle.std.specs.Prelude.{ℕ, ◌*◌, ◌==◌, min, nat_lt, replicate, Bool, false, true, Option, Some, None, option_map, is_some, if◌then◌else◌}
 use Rattle.intel_lanes.specs.declared.lanes.Width.{Width}
+use Rattle.intel_lanes.specs.declared.lanes.Width.TheVariants.{Word, Dword}
+use Rattle.intel_lanes.specs.declared.lanes.Lane2.{Lane2}
+use Rattle.intel_lanes.specs.declared.lanes.Lane2.TheVariants as op
 use Rattle.intel_lanes.specs.declared.lanes.Shift.{Shift}
 use Rattle.intel_lanes.specs.declared.lanes.Shift.TheVariants.{Left, Right, Arithmetic}
 use Rattle.intel_lanes.specs.declared.blocks.One.TheVariants as one
@@ -13,12 +16,15 @@ use Rattle.intel_forms.specs.declared.forms.Form.{Form}
 use Rattle.intel_forms.specs.declared.forms.Form.TheVariants as form
 use Rattle.intel_table.specs.declared.IntelOp.{IntelOp}
 use Rattle.intel_table.specs.Rows.{form_of}
+use Rattle.neon_move.specs.declared.MoveOp.TheVariants.{Permuting}
+use Rattle.neon_move.specs.declared.permuting.Permuting.TheVariants.{Vuzp1qU16, Vuzp1qU32, Vuzp2qU16, Vuzp2qU32}
 use Rattle.neon_table.specs.declared.NeonOp.{NeonOp}
 use Rattle.seq_core.specs.Terms.{Term, Param, Const, Sequence}
 use Rattle.seq_arith.specs.declared.plans.Shape.{Shape}
 use Rattle.seq_arith.specs.declared.plans.Shape.TheVariants as shape
 use Rattle.seq_arith.specs.Calls.{on_one, on_two, over_one, over_two}
-use Rattle.seq_arith.specs.Rows.{row1_of, row2_of, is_exchanged, pairs_row_of, shift_row_of}
+use Rattle.seq_arith.specs.Rows.{row1_of, row2_of, is_exchanged, pair_sums, shift_row_of}
+use Rattle.seq_arith.specs.Products.{high_words, even_products, on_uneven}
 
 -- a shift of the first operand by a constant that isn't 0: none is left from the width on, or the sign
 abbrev pub shifted_by : Shift → Width → ℕ → Term
@@ -30,14 +36,42 @@ abbrev pub sequence_of : Shape → ℕ → Sequence
 sequence_of (shape.One row) imm = over_one (on_one row (Param 0) 0)
 sequence_of (shape.Two row) imm = over_two (on_two row (Param 0) (Param 1))
 sequence_of (shape.Exchanged row) imm = over_two (on_two row (Param 1) (Param 0))
+sequence_of (shape.Uneven even odd row) imm = over_two (on_uneven even odd row)
+sequence_of (shape.HighWords signs) imm = over_two (high_words signs)
+sequence_of (shape.EvenProducts signs) imm = over_two (even_products signs)
 sequence_of (shape.Shifted shift width) imm = over_one (if imm == 0 then Param 0 else shifted_by shift width imm)
 
 abbrev pub ordered : Bool → NeonOp → Shape
 ordered exchanged row = if exchanged then shape.Exchanged row else shape.Two row
 
+-- where the lanes are words
+abbrev pub for_words : Width → Shape → Option Shape
+for_words Word s = Some s
+for_words _ s = None
+
+abbrev pub planned_lanes : Lane2 → Width → Option Shape
+planned_lanes op.MultiplyHigh width = for_words width (shape.HighWords true)
+planned_lanes op.MultiplyHighUnsigned width = for_words width (shape.HighWords false)
+planned_lanes o width = option_map (ordered (is_exchanged o)) (row2_of o width)
+
+-- a row of even and odd lanes
+abbrev pub uneven : Width → Option NeonOp → Option Shape
+uneven Word row = option_map (shape.Uneven (Permuting Vuzp1qU16) (Permuting Vuzp2qU16)) row
+uneven Dword row = option_map (shape.Uneven (Permuting Vuzp1qU32) (Permuting Vuzp2qU32)) row
+uneven _ row = None
+
+abbrev pub planned_pairs : Lane2 → Width → Option Shape
+planned_pairs op.Add width = option_map shape.Two (pair_sums width)
+planned_pairs op.Sub width = uneven width (row2_of op.Sub width)
+planned_pairs op.AddSaturate width = uneven width (row2_of op.AddSaturate width)
+planned_pairs op.SubSaturate width = uneven width (row2_of op.SubSaturate width)
+planned_pairs _ width = None
+
 abbrev pub planned_two : Two → Option Shape
-planned_two (two.Lanes op width) = option_map (ordered (is_exchanged op)) (row2_of op width)
-planned_two (two.Pairs op width) = option_map shape.Two (pairs_row_of op width)
+planned_two (two.Lanes o width) = planned_lanes o width
+planned_two (two.Pairs o width) = planned_pairs o width
+planned_two two.MultiplyEven = Some (shape.EvenProducts true)
+planned_two two.MultiplyEvenUnsigned = Some (shape.EvenProducts false)
 planned_two _ = None
 
 -- the kind of a form's sequence, where its rows have one here

@@ -110,11 +110,6 @@ is_exchanged op.AndNot = true
 is_exchanged op.Less = true
 is_exchanged _ = false
 
--- of adjacent lanes
-abbrev pub pairs_row_of : Lane2 → Width → Option NeonOp
-pairs_row_of op.Add width = pair_sums width
-pairs_row_of _ width = None
-
 -- of one lane and a constant
 abbrev pub shift_row_of : Shift → Width → NeonOp
 shift_row_of shift.Left width = shifts width VshlqNU8 VshlqNU16 VshlqNU32 VshlqNU64

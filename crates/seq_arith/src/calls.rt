@@ -18,14 +18,15 @@ use std::alloc::{AllocError, Global};
 /// `uint8x16_t`.
 const CARRIER: CType = CType::Neon(NeonLane::U8, true);
 
-fn reread(alloc: Global, row: MoveOp, x: Term) -> Result<Term, AllocError>
+/// A vector read as one of other elements.
+pub fn reread(alloc: Global, row: MoveOp, x: Term) -> Result<Term, AllocError>
     ensures { IfOk result (λ t. view t ≡ reread row (view x)) }
 {
     build::call_one(alloc, neon_table::moving(row), x, 0)
 }
 
 /// A carrier read as a vector of these elements.
-fn into(alloc: Global, elements: NeonLane, x: Term) -> Result<Term, AllocError>
+pub fn into(alloc: Global, elements: NeonLane, x: Term) -> Result<Term, AllocError>
     ensures { IfOk result (λ t. view t ≡ into elements (view x)) }
 {
     match elements {
@@ -41,7 +42,7 @@ fn into(alloc: Global, elements: NeonLane, x: Term) -> Result<Term, AllocError>
 }
 
 /// A vector of these elements as a carrier.
-fn back(alloc: Global, elements: NeonLane, x: Term) -> Result<Term, AllocError>
+pub fn back(alloc: Global, elements: NeonLane, x: Term) -> Result<Term, AllocError>
     ensures { IfOk result (λ t. view t ≡ back elements (view x)) }
 {
     match elements {
@@ -66,7 +67,8 @@ fn taken(form: Form) -> NeonLane
         | Form::Compared(_, t)
         | Form::ShiftLeft(t)
         | Form::ShiftRight(t)
-        | Form::PairSums(t) => t,
+        | Form::PairSums(t)
+        | Form::Permuted(_, t) => t,
         _ => U8,
     }
 }

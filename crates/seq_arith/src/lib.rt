@@ -3,6 +3,7 @@
 
 mod calls;
 mod plans;
+mod products;
 mod rows;
 
 pub use plans::{is_arithmetic, plan};

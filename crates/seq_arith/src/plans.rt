@@ -11,15 +11,18 @@ ghost use Rattle.seq_core.specs.Values.{evaluated};
 ghost use Rattle.seq_core.specs.Formed.{WellFormed};
 ghost use Rattle.seq_core.specs.Called.{rows_called, plain};
 ghost use Rattle.seq_arith.specs.Calls.{operands};
-ghost use Rattle.seq_arith.specs.Plans.{shifted_by, sequence_of, ordered, planned_two, planned, is_arithmetic, plan_of};
+ghost use Rattle.seq_arith.specs.Plans.{shifted_by, sequence_of, ordered, for_words, planned_lanes, uneven, planned_pairs, planned_two, planned, is_arithmetic, plan_of};
 ghost use Rattle.seq_arith.specs.Listed.{listed};
 
 use crate::calls::{on_one, on_two, over_one, over_two};
-use crate::rows::{is_exchanged, pairs_row, row1, row2, shift_row};
+use crate::products::{even_products, high_words, on_uneven};
+use crate::rows::{is_exchanged, pair_sums, row1, row2, shift_row};
 use intel_forms::{Form, Size};
 use intel_lanes::blocks::{One, OneImm, Two};
-use intel_lanes::lanes::{Shift, Width};
+use intel_lanes::lanes::{Lane2, Shift, Width};
 use intel_table::IntelOp;
+use neon_move::MoveOp;
+use neon_move::permuting::Permuting;
 use neon_table::NeonOp;
 use seq_core::{Seq, Term};
 use std::alloc::{AllocError, Global};
@@ -33,6 +36,12 @@ enum Shape {
     Two(NeonOp),
     /// The row of both operands, the second first.
     Exchanged(NeonOp),
+    /// The row of the even and the odd lanes of both operands, which two rows give.
+    Uneven(MoveOp, MoveOp, NeonOp),
+    /// The high words of the products of words, signed where the truth value is true.
+    HighWords(bool),
+    /// The products of the even dwords, signed where the truth value is true.
+    EvenProducts(bool),
     /// A shift by the immediate.
     Shifted(Shift, Width),
 }
@@ -85,6 +94,9 @@ fn sequence(alloc: Global, shape: Shape, imm: u16) -> Result<Seq, AllocError>
         Shape::Exchanged(row) => {
             over_two(alloc, on_two(alloc, row, Term::Param(1), Term::Param(0))?)
         }
+        Shape::Uneven(even, odd, row) => over_two(alloc, on_uneven(alloc, even, odd, row)?),
+        Shape::HighWords(signs) => over_two(alloc, high_words(alloc, signs)?),
+        Shape::EvenProducts(signs) => over_two(alloc, even_products(alloc, signs)?),
         Shape::Shifted(shift, width) => shifted(alloc, shift, width, imm),
     }
 }
@@ -99,18 +111,69 @@ fn ordered(exchanged: bool, row: NeonOp) -> Shape
     }
 }
 
+fn for_words(width: Width, shape: Shape) -> Option<Shape>
+    ensures { result ≡ for_words width shape }
+{
+    match width {
+        Width::Word => Some(shape),
+        Width::Byte | Width::Dword | Width::Qword => None,
+    }
+}
+
+fn planned_lanes(op: Lane2, width: Width) -> Option<Shape>
+    ensures { result ≡ planned_lanes op width }
+{
+    match op {
+        Lane2::MultiplyHigh => for_words(width, Shape::HighWords(true)),
+        Lane2::MultiplyHighUnsigned => for_words(width, Shape::HighWords(false)),
+        _ => match row2(op, width) {
+            Some(row) => Some(ordered(is_exchanged(op), row)),
+            None => None,
+        },
+    }
+}
+
+/// A row of even and odd lanes.
+fn uneven(width: Width, row: Option<NeonOp>) -> Option<Shape>
+    ensures { result ≡ uneven width row }
+{
+    let row = row?;
+    match width {
+        Width::Word => Some(Shape::Uneven(
+            MoveOp::Permuting(Permuting::Vuzp1qU16),
+            MoveOp::Permuting(Permuting::Vuzp2qU16),
+            row,
+        )),
+        Width::Dword => Some(Shape::Uneven(
+            MoveOp::Permuting(Permuting::Vuzp1qU32),
+            MoveOp::Permuting(Permuting::Vuzp2qU32),
+            row,
+        )),
+        Width::Byte | Width::Qword => None,
+    }
+}
+
+fn planned_pairs(op: Lane2, width: Width) -> Option<Shape>
+    ensures { result ≡ planned_pairs op width }
+{
+    match op {
+        Lane2::Add => match pair_sums(width) {
+            Some(row) => Some(Shape::Two(row)),
+            None => None,
+        },
+        Lane2::Sub | Lane2::AddSaturate | Lane2::SubSaturate => uneven(width, row2(op, width)),
+        _ => None,
+    }
+}
+
 fn planned_two(op: Two) -> Option<Shape>
     ensures { result ≡ planned_two op }
 {
     match op {
-        Two::Lanes(op, width) => match row2(op, width) {
-            Some(row) => Some(ordered(is_exchanged(op), row)),
-            None => None,
-        },
-        Two::Pairs(op, width) => match pairs_row(op, width) {
-            Some(row) => Some(Shape::Two(row)),
-            None => None,
-        },
+        Two::Lanes(op, width) => planned_lanes(op, width),
+        Two::Pairs(op, width) => planned_pairs(op, width),
+        Two::MultiplyEven => Some(Shape::EvenProducts(true)),
+        Two::MultiplyEvenUnsigned => Some(Shape::EvenProducts(false)),
         _ => None,
     }
 }

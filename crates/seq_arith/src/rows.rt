@@ -1,7 +1,7 @@
 //! The Neon row for each formula and width of lanes, where one row has it.
 
 ghost use Rattle.std.specs.Prelude.{◌≡◌};
-ghost use Rattle.seq_arith.specs.Rows.{sums, choices, shifts, extremes, saturating, products, pair_sums, absolutes, logic, row1_of, row2_of, is_exchanged, pairs_row_of, shift_row_of};
+ghost use Rattle.seq_arith.specs.Rows.{sums, choices, shifts, extremes, saturating, products, pair_sums, absolutes, logic, row1_of, row2_of, is_exchanged, shift_row_of};
 
 use intel_lanes::lanes::{Lane1, Lane2, Shift, Width};
 use neon_lane::LaneOp;
@@ -100,7 +100,8 @@ fn products(width: Width) -> Option<NeonOp>
     }
 }
 
-fn pair_sums(width: Width) -> Option<NeonOp>
+/// The row that adds adjacent lanes.
+pub fn pair_sums(width: Width) -> Option<NeonOp>
     ensures { result ≡ pair_sums width }
 {
     match width {
@@ -173,16 +174,6 @@ pub fn is_exchanged(op: Lane2) -> bool
     ensures { result ≡ is_exchanged op }
 {
     matches!(op, Lane2::AndNot | Lane2::Less)
-}
-
-/// The row that computes this of adjacent lanes.
-pub fn pairs_row(op: Lane2, width: Width) -> Option<NeonOp>
-    ensures { result ≡ pairs_row_of op width }
-{
-    match op {
-        Lane2::Add => pair_sums(width),
-        _ => None,
-    }
 }
 
 /// The row that shifts each lane by a constant: to the left below the width, to the right from 1 to the width.

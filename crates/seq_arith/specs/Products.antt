@@ -1,0 +1,58 @@
+-- The terms of rows that take several calls.
+use Rattle.std.specs.Prelude.{Bool, true, false}
+use Rattle.lane_core.specs.declared.vector.NeonLane.{NeonLane}
+use Rattle.lane_core.specs.declared.vector.NeonLane.TheVariants.{U16, U64, S16, S32, S64}
+use Rattle.neon_lane.specs.declared.LaneOp.{LaneOp}
+use Rattle.neon_lane.specs.declared.LaneOp.TheVariants.{Products}
+use Rattle.neon_lane.specs.declared.products.Products.TheVariants.{VmullS16, VmullU16, VmullS32, VmullU32, VmullHighS16, VmullHighU16}
+use Rattle.neon_move.specs.declared.MoveOp.{MoveOp}
+use Rattle.neon_move.specs.declared.MoveOp.TheVariants.{Halves, Narrowed, Permuting, ToUnsigned}
+use Rattle.neon_move.specs.declared.halves.Halves.TheVariants.{VgetLowS16, VgetLowU16}
+use Rattle.neon_move.specs.declared.narrowed.Narrowed.TheVariants.{VmovnS64, VmovnU64}
+use Rattle.neon_move.specs.declared.permuting.Permuting.TheVariants.{Vuzp2qU16}
+use Rattle.neon_move.specs.declared.to_unsigned.ToUnsigned.TheVariants.{VreinterpretqU16S32, VreinterpretqU16U32}
+use Rattle.neon_table.specs.declared.NeonOp.{NeonOp}
+use Rattle.neon_table.specs.Rows.{of_lane, of_move}
+use Rattle.seq_core.specs.Terms.{Term, Param, Call, NoTerms, More}
+use Rattle.seq_arith.specs.Calls.{reread, into, back, on_two}
+
+-- the call of a row on vectors of its own elements
+abbrev pub one : NeonOp → Term → Term
+one row x = Call row (More x NoTerms) 0
+
+abbrev pub two : NeonOp → Term → Term → Term
+two row x y = Call row (More x (More y NoTerms)) 0
+
+-- a row on both operands as vectors of these elements, and on a part of each
+abbrev pub on_whole : LaneOp → NeonLane → Term
+on_whole row t = two (of_lane row) (into t (Param 0)) (into t (Param 1))
+
+abbrev pub on_parts : LaneOp → MoveOp → NeonLane → Term
+on_parts row part t = two (of_lane row) (one (of_move part) (into t (Param 0))) (one (of_move part) (into t (Param 1)))
+
+-- the products of the low and of the high words, signed where the truth value is true
+abbrev pub low_products : Bool → Term
+low_products true = on_parts (Products VmullS16) (Halves VgetLowS16) S16
+low_products false = on_parts (Products VmullU16) (Halves VgetLowU16) U16
+
+abbrev pub high_products : Bool → Term
+high_products true = on_whole (Products VmullHighS16) S16
+high_products false = on_whole (Products VmullHighU16) U16
+
+-- the dwords as words
+abbrev pub as_words : Bool → Term → Term
+as_words true x = reread (ToUnsigned VreinterpretqU16S32) x
+as_words false x = reread (ToUnsigned VreinterpretqU16U32) x
+
+-- the high words of the products
+abbrev pub high_words : Bool → Term
+high_words signs = back U16 (two (of_move (Permuting Vuzp2qU16)) (as_words signs (low_products signs)) (as_words signs (high_products signs)))
+
+-- the products of the even dwords
+abbrev pub even_products : Bool → Term
+even_products true = back S64 (on_parts (Products VmullS32) (Narrowed VmovnS64) S64)
+even_products false = back U64 (on_parts (Products VmullU32) (Narrowed VmovnU64) U64)
+
+-- a row on the even and the odd lanes of both operands
+abbrev pub on_uneven : MoveOp → MoveOp → NeonOp → Term
+on_uneven even odd row = on_two row (on_two (of_move even) (Param 0) (Param 1)) (on_two (of_move odd) (Param 0) (Param 1))

@@ -1,0 +1,117 @@
+//! The terms of rows that take several calls. The only error of each is want of memory.
+
+ghost use Rattle.std.specs.Prelude.{◌≡◌, IfOk};
+ghost use Rattle.seq_core.specs.View.{view};
+ghost use Rattle.seq_arith.specs.Products.{on_whole, on_parts, low_products, high_products, as_words, high_words, even_products, on_uneven};
+
+use crate::calls::{back, into, on_two, reread};
+use lane_core::vector::NeonLane::{self, S16, S64, U16, U64};
+use neon_lane::LaneOp;
+use neon_lane::products::Products;
+use neon_move::MoveOp;
+use neon_move::halves::Halves;
+use neon_move::narrowed::Narrowed;
+use neon_move::permuting::Permuting;
+use neon_move::to_unsigned::ToUnsigned;
+use neon_table::{NeonOp, computing, moving};
+use seq_core::{Term, build};
+use std::alloc::{AllocError, Global};
+
+/// A row on both operands as vectors of these elements.
+fn on_whole(alloc: Global, row: LaneOp, elements: NeonLane) -> Result<Term, AllocError>
+    ensures { IfOk result (λ t. view t ≡ on_whole row elements) }
+{
+    let a = into(alloc, elements, Term::Param(0))?;
+    let b = into(alloc, elements, Term::Param(1))?;
+    build::call_two(alloc, computing(row), a, b, 0)
+}
+
+/// A row on a part of each operand.
+fn on_parts(
+    alloc: Global,
+    row: LaneOp,
+    part: MoveOp,
+    elements: NeonLane,
+) -> Result<Term, AllocError>
+    ensures { IfOk result (λ t. view t ≡ on_parts row part elements) }
+{
+    let a = into(alloc, elements, Term::Param(0))?;
+    let b = into(alloc, elements, Term::Param(1))?;
+    let a = build::call_one(alloc, moving(part), a, 0)?;
+    let b = build::call_one(alloc, moving(part), b, 0)?;
+    build::call_two(alloc, computing(row), a, b, 0)
+}
+
+fn low_products(alloc: Global, signs: bool) -> Result<Term, AllocError>
+    ensures { IfOk result (λ t. view t ≡ low_products signs) }
+{
+    if signs {
+        let row = LaneOp::Products(Products::VmullS16);
+        on_parts(alloc, row, MoveOp::Halves(Halves::VgetLowS16), S16)
+    } else {
+        let row = LaneOp::Products(Products::VmullU16);
+        on_parts(alloc, row, MoveOp::Halves(Halves::VgetLowU16), U16)
+    }
+}
+
+fn high_products(alloc: Global, signs: bool) -> Result<Term, AllocError>
+    ensures { IfOk result (λ t. view t ≡ high_products signs) }
+{
+    if signs {
+        on_whole(alloc, LaneOp::Products(Products::VmullHighS16), S16)
+    } else {
+        on_whole(alloc, LaneOp::Products(Products::VmullHighU16), U16)
+    }
+}
+
+fn as_words(alloc: Global, signs: bool, x: Term) -> Result<Term, AllocError>
+    ensures { IfOk result (λ t. view t ≡ as_words signs (view x)) }
+{
+    if signs {
+        reread(
+            alloc,
+            MoveOp::ToUnsigned(ToUnsigned::VreinterpretqU16S32),
+            x,
+        )
+    } else {
+        reread(
+            alloc,
+            MoveOp::ToUnsigned(ToUnsigned::VreinterpretqU16U32),
+            x,
+        )
+    }
+}
+
+/// The high words of the products of words, signed where the truth value is true.
+pub fn high_words(alloc: Global, signs: bool) -> Result<Term, AllocError>
+    ensures { IfOk result (λ t. view t ≡ high_words signs) }
+{
+    let low = as_words(alloc, signs, low_products(alloc, signs)?)?;
+    let high = as_words(alloc, signs, high_products(alloc, signs)?)?;
+    let row = moving(MoveOp::Permuting(Permuting::Vuzp2qU16));
+    back(alloc, U16, build::call_two(alloc, row, low, high, 0)?)
+}
+
+/// The products of the even dwords, signed where the truth value is true.
+pub fn even_products(alloc: Global, signs: bool) -> Result<Term, AllocError>
+    ensures { IfOk result (λ t. view t ≡ even_products signs) }
+{
+    if signs {
+        let row = LaneOp::Products(Products::VmullS32);
+        let products = on_parts(alloc, row, MoveOp::Narrowed(Narrowed::VmovnS64), S64)?;
+        back(alloc, S64, products)
+    } else {
+        let row = LaneOp::Products(Products::VmullU32);
+        let products = on_parts(alloc, row, MoveOp::Narrowed(Narrowed::VmovnU64), U64)?;
+        back(alloc, U64, products)
+    }
+}
+
+/// A row on the even and the odd lanes of both operands.
+pub fn on_uneven(alloc: Global, even: MoveOp, odd: MoveOp, row: NeonOp) -> Result<Term, AllocError>
+    ensures { IfOk result (λ t. view t ≡ on_uneven even odd row) }
+{
+    let even = on_two(alloc, moving(even), Term::Param(0), Term::Param(1))?;
+    let odd = on_two(alloc, moving(odd), Term::Param(0), Term::Param(1))?;
+    on_two(alloc, row, even, odd)
+}
