@@ -1,4 +1,6 @@
 pub mod Kernels
 pub mod Wide
+pub mod Sums
+pub mod Rounded
 pub mod Values
 pub mod Shapes

@@ -42,6 +42,7 @@ lanes1_whole _ imm = search (rules, arith) depth 14
 
 lanes2_whole : (o : Lane2) (width : Width) (imm : ℕ) → When (IsWhole (listed2 o width)) (planned_two (two.Lanes o width)) imm
 lanes2_whole op.Add Byte imm = search (rules, arith) depth 14
+lanes2_whole op.MultiplyRound Word imm = search (rules, arith) depth 20
 lanes2_whole op.MultiplyHigh Word imm = search (rules, arith) depth 20
 lanes2_whole op.MultiplyHighUnsigned Word imm = search (rules, arith) depth 20
 lanes2_whole _ Byte imm = search (rules, arith) depth 14
@@ -95,6 +96,8 @@ plan_whole (form.Two Xmm (two.Lanes o width)) imm = lanes2_whole o width imm
 plan_whole (form.Two Xmm (two.Pairs o width)) imm = pairs_whole o width imm
 plan_whole (form.Two Xmm two.MultiplyEven) imm = even_whole true imm
 plan_whole (form.Two Xmm two.MultiplyEvenUnsigned) imm = even_whole false imm
+plan_whole (form.Two Xmm two.MultiplyAdd) imm = search (rules, arith) depth 20
+plan_whole (form.Two Xmm two.SumDifferences) imm = search (rules, arith) depth 20
 plan_whole (form.OneImm Xmm (one_imm.Shifted s width)) imm = shift_whole s width imm
 plan_whole _ imm = tt
 

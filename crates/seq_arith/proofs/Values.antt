@@ -23,7 +23,7 @@ use Rattle.intel_lanes.specs.declared.blocks.One.TheVariants as one
 use Rattle.intel_lanes.specs.declared.blocks.Two.TheVariants as two
 use Rattle.intel_lanes.specs.declared.blocks.OneImm.TheVariants as one_imm
 use Rattle.intel_lanes.specs.Lanes.{bytes_of, lane1_of, lane2_of, shift_of}
-use Rattle.intel_lanes.specs.Blocks.{lanes1, lanes2, pairs, shifted, multiply_even, multiply_even_unsigned}
+use Rattle.intel_lanes.specs.Blocks.{lanes1, lanes2, pairs, shifted, multiply_even, multiply_even_unsigned, multiply_add, sum_differences}
 use Rattle.intel_lanes.specs.Laws.{width_is, word, xmm}
 use Rattle.intel_forms.specs.declared.sizes.Size.TheVariants.{Xmm}
 use Rattle.intel_forms.specs.declared.forms.Form.{Form}
@@ -40,6 +40,8 @@ use Rattle.seq_arith.specs.declared.plans.Shape.TheVariants as shape
 use Rattle.seq_arith.specs.Calls.{operands, on_one, over_one}
 use Rattle.seq_arith.specs.Rows.{shift_row_of}
 use Rattle.seq_arith.specs.Plans.{shifted_by, sequence_of, planned_two, planned}
+use Rattle.seq_arith.proofs.Sums.{added_products, differences}
+use Rattle.seq_arith.proofs.Rounded.{rounded_products}
 use Rattle.seq_arith.proofs.Wide.{uneven, high_signed, high_unsigned, even_signed, even_unsigned}
 use Rattle.seq_arith.proofs.Kernels.{saturate_is, saturate_unsigned_is, average_is, min_is, min_unsigned_is, max_unsigned_is, absolute_is, none_shifted, right_is, arithmetic_is}
 
@@ -139,6 +141,7 @@ lanes2_give op.MultiplyLow Word imm = λ a b h k. refl
 lanes2_give op.MultiplyLow Dword imm = λ a b h k. refl
 lanes2_give op.MultiplyHigh Word imm = λ a b h k. as_register (high_signed a b h k)
 lanes2_give op.MultiplyHighUnsigned Word imm = λ a b h k. as_register (high_unsigned a b h k)
+lanes2_give op.MultiplyRound Word imm = λ a b h k. as_register (rounded_products a b h k)
 lanes2_give op.Min Byte imm = λ a b h k. as_register (least 1 a b h k)
 lanes2_give op.Min Word imm = λ a b h k. as_register (least 2 a b h k)
 lanes2_give op.Min Dword imm = λ a b h k. as_register (least 4 a b h k)
@@ -316,6 +319,8 @@ plan_due (form.Two Xmm (two.Lanes o width)) imm = two_due (planned_two (two.Lane
 plan_due (form.Two Xmm (two.Pairs o width)) imm = two_due (planned_two (two.Pairs o width)) imm (pairs o (bytes_of width)) (pairs_give o width imm)
 plan_due (form.Two Xmm two.MultiplyEven) imm = two_due (Some (shape.EvenProducts true)) imm multiply_even (λ a b h k. as_register (even_signed a b h k))
 plan_due (form.Two Xmm two.MultiplyEvenUnsigned) imm = two_due (Some (shape.EvenProducts false)) imm multiply_even_unsigned (λ a b h k. as_register (even_unsigned a b h k))
+plan_due (form.Two Xmm two.MultiplyAdd) imm = two_due (Some shape.AddedProducts) imm multiply_add (λ a b h k. as_register (added_products a b h k))
+plan_due (form.Two Xmm two.SumDifferences) imm = two_due (Some shape.SumDifferences) imm sum_differences (λ a b h k. as_register (differences a b h k))
 plan_due (form.OneImm Xmm (one_imm.Shifted s width)) imm = imm_due (Some (shape.Shifted s width)) imm (shifted s (bytes_of width) imm) (shift_gives s width imm)
 plan_due _ imm = tt
 

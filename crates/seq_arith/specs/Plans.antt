@@ -24,7 +24,7 @@ use Rattle.seq_arith.specs.declared.plans.Shape.{Shape}
 use Rattle.seq_arith.specs.declared.plans.Shape.TheVariants as shape
 use Rattle.seq_arith.specs.Calls.{on_one, on_two, over_one, over_two}
 use Rattle.seq_arith.specs.Rows.{row1_of, row2_of, is_exchanged, pair_sums, shift_row_of}
-use Rattle.seq_arith.specs.Products.{high_words, even_products, on_uneven}
+use Rattle.seq_arith.specs.Products.{high_words, even_products, on_uneven, added_products, differences, rounded_products}
 
 -- a shift of the first operand by a constant that isn't 0: none is left from the width on, or the sign
 abbrev pub shifted_by : Shift → Width → ℕ → Term
@@ -39,6 +39,9 @@ sequence_of (shape.Exchanged row) imm = over_two (on_two row (Param 1) (Param 0)
 sequence_of (shape.Uneven even odd row) imm = over_two (on_uneven even odd row)
 sequence_of (shape.HighWords signs) imm = over_two (high_words signs)
 sequence_of (shape.EvenProducts signs) imm = over_two (even_products signs)
+sequence_of shape.AddedProducts imm = over_two added_products
+sequence_of shape.SumDifferences imm = over_two differences
+sequence_of shape.RoundedProducts imm = over_two rounded_products
 sequence_of (shape.Shifted shift width) imm = over_one (if imm == 0 then Param 0 else shifted_by shift width imm)
 
 abbrev pub ordered : Bool → NeonOp → Shape
@@ -52,6 +55,7 @@ for_words _ s = None
 abbrev pub planned_lanes : Lane2 → Width → Option Shape
 planned_lanes op.MultiplyHigh width = for_words width (shape.HighWords true)
 planned_lanes op.MultiplyHighUnsigned width = for_words width (shape.HighWords false)
+planned_lanes op.MultiplyRound width = for_words width shape.RoundedProducts
 planned_lanes o width = option_map (ordered (is_exchanged o)) (row2_of o width)
 
 -- a row of even and odd lanes
@@ -72,6 +76,8 @@ planned_two (two.Lanes o width) = planned_lanes o width
 planned_two (two.Pairs o width) = planned_pairs o width
 planned_two two.MultiplyEven = Some (shape.EvenProducts true)
 planned_two two.MultiplyEvenUnsigned = Some (shape.EvenProducts false)
+planned_two two.MultiplyAdd = Some shape.AddedProducts
+planned_two two.SumDifferences = Some shape.SumDifferences
 planned_two _ = None
 
 -- the kind of a form's sequence, where its rows have one here

@@ -3,12 +3,13 @@ use Rattle.std.specs.Prelude.{Bool, true, false}
 use Rattle.lane_core.specs.declared.vector.NeonLane.{NeonLane}
 use Rattle.lane_core.specs.declared.vector.NeonLane.TheVariants.{U16, U64, S16, S32, S64}
 use Rattle.neon_lane.specs.declared.LaneOp.{LaneOp}
-use Rattle.neon_lane.specs.declared.LaneOp.TheVariants.{Products}
-use Rattle.neon_lane.specs.declared.products.Products.TheVariants.{VmullS16, VmullU16, VmullS32, VmullU32, VmullHighS16, VmullHighU16}
+use Rattle.neon_lane.specs.declared.LaneOp.TheVariants.{Products, Saturating}
+use Rattle.neon_lane.specs.declared.products.Products.TheVariants.{VmullS16, VmullU16, VmullS32, VmullU32, VmullHighS16, VmullHighU16, VpaddlqU8, VpaddlqU16, VpaddlqU32, VpaddqS32}
+use Rattle.neon_lane.specs.declared.saturating.Saturating.TheVariants.{VabdqU8}
 use Rattle.neon_move.specs.declared.MoveOp.{MoveOp}
 use Rattle.neon_move.specs.declared.MoveOp.TheVariants.{Halves, Narrowed, Permuting, ToUnsigned}
-use Rattle.neon_move.specs.declared.halves.Halves.TheVariants.{VgetLowS16, VgetLowU16}
-use Rattle.neon_move.specs.declared.narrowed.Narrowed.TheVariants.{VmovnS64, VmovnU64}
+use Rattle.neon_move.specs.declared.halves.Halves.TheVariants.{VgetLowS16, VgetLowU16, VcombineS16}
+use Rattle.neon_move.specs.declared.narrowed.Narrowed.TheVariants.{VmovnS64, VmovnU64, VrshrnNS32}
 use Rattle.neon_move.specs.declared.permuting.Permuting.TheVariants.{Vuzp2qU16}
 use Rattle.neon_move.specs.declared.to_unsigned.ToUnsigned.TheVariants.{VreinterpretqU16S32, VreinterpretqU16U32}
 use Rattle.neon_table.specs.declared.NeonOp.{NeonOp}
@@ -56,3 +57,18 @@ even_products false = back U64 (on_parts (Products VmullU32) (Narrowed VmovnU64)
 -- a row on the even and the odd lanes of both operands
 abbrev pub on_uneven : MoveOp → MoveOp → NeonOp → Term
 on_uneven even odd row = on_two row (on_two (of_move even) (Param 0) (Param 1)) (on_two (of_move odd) (Param 0) (Param 1))
+
+-- the products, the two of adjacent words summed
+abbrev pub added_products : Term
+added_products = back S32 (two (of_lane (Products VpaddqS32)) (low_products true) (high_products true))
+
+-- the differences of the bytes, eight summed
+abbrev pub differences : Term
+differences = back U64 (one (of_lane (Products VpaddlqU32)) (one (of_lane (Products VpaddlqU16)) (one (of_lane (Products VpaddlqU8)) (two (of_lane (Saturating VabdqU8)) (Param 0) (Param 1)))))
+
+-- the products over 2^15, a half rounded up
+abbrev pub rounded : Term → Term
+rounded x = Call (of_move (Narrowed VrshrnNS32)) (More x NoTerms) 15
+
+abbrev pub rounded_products : Term
+rounded_products = back S16 (two (of_move (Halves VcombineS16)) (rounded (low_products true)) (rounded (high_products true)))

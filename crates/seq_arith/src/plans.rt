@@ -15,7 +15,9 @@ ghost use Rattle.seq_arith.specs.Plans.{shifted_by, sequence_of, ordered, for_wo
 ghost use Rattle.seq_arith.specs.Listed.{listed};
 
 use crate::calls::{on_one, on_two, over_one, over_two};
-use crate::products::{even_products, high_words, on_uneven};
+use crate::products::{
+    added_products, differences, even_products, high_words, on_uneven, rounded_products,
+};
 use crate::rows::{is_exchanged, pair_sums, row1, row2, shift_row};
 use intel_forms::{Form, Size};
 use intel_lanes::blocks::{One, OneImm, Two};
@@ -42,6 +44,12 @@ enum Shape {
     HighWords(bool),
     /// The products of the even dwords, signed where the truth value is true.
     EvenProducts(bool),
+    /// The products of words, the two of adjacent words summed.
+    AddedProducts,
+    /// The differences of bytes, eight summed.
+    SumDifferences,
+    /// The products of words over 2^15, a half rounded up.
+    RoundedProducts,
     /// A shift by the immediate.
     Shifted(Shift, Width),
 }
@@ -97,6 +105,9 @@ fn sequence(alloc: Global, shape: Shape, imm: u16) -> Result<Seq, AllocError>
         Shape::Uneven(even, odd, row) => over_two(alloc, on_uneven(alloc, even, odd, row)?),
         Shape::HighWords(signs) => over_two(alloc, high_words(alloc, signs)?),
         Shape::EvenProducts(signs) => over_two(alloc, even_products(alloc, signs)?),
+        Shape::AddedProducts => over_two(alloc, added_products(alloc)?),
+        Shape::SumDifferences => over_two(alloc, differences(alloc)?),
+        Shape::RoundedProducts => over_two(alloc, rounded_products(alloc)?),
         Shape::Shifted(shift, width) => shifted(alloc, shift, width, imm),
     }
 }
@@ -126,6 +137,7 @@ fn planned_lanes(op: Lane2, width: Width) -> Option<Shape>
     match op {
         Lane2::MultiplyHigh => for_words(width, Shape::HighWords(true)),
         Lane2::MultiplyHighUnsigned => for_words(width, Shape::HighWords(false)),
+        Lane2::MultiplyRound => for_words(width, Shape::RoundedProducts),
         _ => match row2(op, width) {
             Some(row) => Some(ordered(is_exchanged(op), row)),
             None => None,
@@ -174,6 +186,8 @@ fn planned_two(op: Two) -> Option<Shape>
         Two::Pairs(op, width) => planned_pairs(op, width),
         Two::MultiplyEven => Some(Shape::EvenProducts(true)),
         Two::MultiplyEvenUnsigned => Some(Shape::EvenProducts(false)),
+        Two::MultiplyAdd => Some(Shape::AddedProducts),
+        Two::SumDifferences => Some(Shape::SumDifferences),
         _ => None,
     }
 }

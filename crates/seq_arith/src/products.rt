@@ -2,12 +2,14 @@
 
 ghost use Rattle.std.specs.Prelude.{◌≡◌, IfOk};
 ghost use Rattle.seq_core.specs.View.{view};
-ghost use Rattle.seq_arith.specs.Products.{on_whole, on_parts, low_products, high_products, as_words, high_words, even_products, on_uneven};
+ghost use Rattle.seq_arith.specs.Products.{on_whole, on_parts, low_products, high_products, as_words, high_words, even_products, on_uneven, one, added_products, differences, rounded, rounded_products};
+ghost use Rattle.neon_table.specs.Rows.{of_lane};
 
 use crate::calls::{back, into, on_two, reread};
-use lane_core::vector::NeonLane::{self, S16, S64, U16, U64};
+use lane_core::vector::NeonLane::{self, S16, S32, S64, U16, U64};
 use neon_lane::LaneOp;
 use neon_lane::products::Products;
+use neon_lane::saturating::Saturating;
 use neon_move::MoveOp;
 use neon_move::halves::Halves;
 use neon_move::narrowed::Narrowed;
@@ -114,4 +116,49 @@ pub fn on_uneven(alloc: Global, even: MoveOp, odd: MoveOp, row: NeonOp) -> Resul
     let even = on_two(alloc, moving(even), Term::Param(0), Term::Param(1))?;
     let odd = on_two(alloc, moving(odd), Term::Param(0), Term::Param(1))?;
     on_two(alloc, row, even, odd)
+}
+
+/// The products of words, the two of adjacent words summed.
+pub fn added_products(alloc: Global) -> Result<Term, AllocError>
+    ensures { IfOk result (λ t. view t ≡ added_products) }
+{
+    let low = low_products(alloc, true)?;
+    let high = high_products(alloc, true)?;
+    let row = computing(LaneOp::Products(Products::VpaddqS32));
+    back(alloc, S32, build::call_two(alloc, row, low, high, 0)?)
+}
+
+/// The adjacent elements of a vector summed, as elements of twice the width.
+fn summed(alloc: Global, row: Products, x: Term) -> Result<Term, AllocError>
+    ensures { IfOk result (λ t. view t ≡ one (of_lane (LaneOp.Products row)) (view x)) }
+{
+    build::call_one(alloc, computing(LaneOp::Products(row)), x, 0)
+}
+
+/// The differences of bytes, eight summed.
+pub fn differences(alloc: Global) -> Result<Term, AllocError>
+    ensures { IfOk result (λ t. view t ≡ differences) }
+{
+    let row = computing(LaneOp::Saturating(Saturating::VabdqU8));
+    let bytes = build::call_two(alloc, row, Term::Param(0), Term::Param(1), 0)?;
+    let words = summed(alloc, Products::VpaddlqU8, bytes)?;
+    let dwords = summed(alloc, Products::VpaddlqU16, words)?;
+    back(alloc, U64, summed(alloc, Products::VpaddlqU32, dwords)?)
+}
+
+fn rounded(alloc: Global, x: Term) -> Result<Term, AllocError>
+    ensures { IfOk result (λ t. view t ≡ rounded (view x)) }
+{
+    let row = moving(MoveOp::Narrowed(Narrowed::VrshrnNS32));
+    build::call_one(alloc, row, x, 15)
+}
+
+/// The products of words over 2^15, a half rounded up.
+pub fn rounded_products(alloc: Global) -> Result<Term, AllocError>
+    ensures { IfOk result (λ t. view t ≡ rounded_products) }
+{
+    let low = rounded(alloc, low_products(alloc, true)?)?;
+    let high = rounded(alloc, high_products(alloc, true)?)?;
+    let row = moving(MoveOp::Halves(Halves::VcombineS16));
+    back(alloc, S16, build::call_two(alloc, row, low, high, 0)?)
 }
