@@ -1,7 +1,6 @@
 -- What rows that work on halves and on pairs of lanes make together.
-use Rattle.std.proofs.Common.{◌≡◌, ℕ, ◌+◌, ◌-◌, ◌*◌, ◌/◌, ◌%◌, ◌^◌, ◌<◌, ◌≤◌, List, ◌++◌, take, length, length-take, refl, ap, sym, ◌∙◌, arith, ℤ, pos, negsuc, ◌*ℤ◌}
+use Rattle.std.proofs.Common.{◌≡◌, ℕ, ◌+◌, ◌*◌, ◌/◌, ◌%◌, ◌^◌, List, ◌++◌, take, length-take, ap, sym, ◌∙◌, arith, ℤ, pos, negsuc, ◌*ℤ◌}
 use Rattle.std.specs.Int.{int_shr}
-use Rattle.std.proofs.lemmas.Int.{ints}
 use Rattle.std.proofs.Math.Nat.{mod-eq_of_lt, mod-mod}
 use Rattle.std.proofs.Math.IntN.{pos-*ℤ-pos}
 use Rattle.lane_core.specs.Register.{Bytes, IsRegister, lane, build, signed, wrapped}
