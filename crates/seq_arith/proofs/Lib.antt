@@ -2,5 +2,6 @@ pub mod Kernels
 pub mod Wide
 pub mod Sums
 pub mod Rounded
+pub mod Signs
 pub mod Values
 pub mod Shapes

@@ -26,6 +26,7 @@ use Rattle.seq_arith.specs.Calls.{on_one, over_one}
 use Rattle.seq_arith.specs.Rows.{shift_row_of}
 use Rattle.seq_arith.specs.Plans.{shifted_by, sequence_of, planned_two, planned}
 use Rattle.seq_arith.specs.Listed.{one_row, listed2, listed_pairs, listed_shift, listed}
+use Rattle.seq_arith.proofs.Signs.{ones_register, minus_register}
 use Rattle.seq_arith.proofs.Values.{When}
 
 -- the rows have these names, where names are due
@@ -43,6 +44,9 @@ lanes1_whole _ imm = search (rules, arith) depth 14
 lanes2_whole : (o : Lane2) (width : Width) (imm : ℕ) → When (IsWhole (listed2 o width)) (planned_two (two.Lanes o width)) imm
 lanes2_whole op.Add Byte imm = search (rules, arith) depth 14
 lanes2_whole op.MultiplyRound Word imm = search (rules, arith) depth 20
+lanes2_whole op.Sign Byte imm = search (rules, arith, ones_register Byte, minus_register) depth 20
+lanes2_whole op.Sign Word imm = search (rules, arith, ones_register Word, minus_register) depth 20
+lanes2_whole op.Sign Dword imm = search (rules, arith, ones_register Dword, minus_register) depth 20
 lanes2_whole op.MultiplyHigh Word imm = search (rules, arith) depth 20
 lanes2_whole op.MultiplyHighUnsigned Word imm = search (rules, arith) depth 20
 lanes2_whole _ Byte imm = search (rules, arith) depth 14

@@ -42,6 +42,7 @@ use Rattle.seq_arith.specs.Rows.{shift_row_of}
 use Rattle.seq_arith.specs.Plans.{shifted_by, sequence_of, planned_two, planned}
 use Rattle.seq_arith.proofs.Sums.{added_products, differences}
 use Rattle.seq_arith.proofs.Rounded.{rounded_products}
+use Rattle.seq_arith.proofs.Signs.{signs_1, signs_2, signs_4}
 use Rattle.seq_arith.proofs.Wide.{uneven, high_signed, high_unsigned, even_signed, even_unsigned}
 use Rattle.seq_arith.proofs.Kernels.{saturate_is, saturate_unsigned_is, average_is, min_is, min_unsigned_is, max_unsigned_is, absolute_is, none_shifted, right_is, arithmetic_is}
 
@@ -142,6 +143,9 @@ lanes2_give op.MultiplyLow Dword imm = λ a b h k. refl
 lanes2_give op.MultiplyHigh Word imm = λ a b h k. as_register (high_signed a b h k)
 lanes2_give op.MultiplyHighUnsigned Word imm = λ a b h k. as_register (high_unsigned a b h k)
 lanes2_give op.MultiplyRound Word imm = λ a b h k. as_register (rounded_products a b h k)
+lanes2_give op.Sign Byte imm = λ a b h k. as_register (signs_1 a b h k)
+lanes2_give op.Sign Word imm = λ a b h k. as_register (signs_2 a b h k)
+lanes2_give op.Sign Dword imm = λ a b h k. as_register (signs_4 a b h k)
 lanes2_give op.Min Byte imm = λ a b h k. as_register (least 1 a b h k)
 lanes2_give op.Min Word imm = λ a b h k. as_register (least 2 a b h k)
 lanes2_give op.Min Dword imm = λ a b h k. as_register (least 4 a b h k)

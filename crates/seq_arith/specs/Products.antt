@@ -1,9 +1,13 @@
 -- The terms of rows that take several calls.
-use Rattle.std.specs.Prelude.{Bool, true, false}
+use Rattle.std.specs.Prelude.{ℕ, List, [], ◌∷◌, replicate, Bool, true, false}
 use Rattle.lane_core.specs.declared.vector.NeonLane.{NeonLane}
-use Rattle.lane_core.specs.declared.vector.NeonLane.TheVariants.{U16, U64, S16, S32, S64}
+use Rattle.lane_core.specs.declared.vector.NeonLane.TheVariants.{U16, U64, S8, S16, S32, S64}
+use Rattle.intel_lanes.specs.declared.lanes.Width.{Width}
+use Rattle.intel_lanes.specs.declared.lanes.Width.TheVariants.{Byte, Word, Dword, Qword}
 use Rattle.neon_lane.specs.declared.LaneOp.{LaneOp}
-use Rattle.neon_lane.specs.declared.LaneOp.TheVariants.{Products, Saturating}
+use Rattle.neon_lane.specs.declared.LaneOp.TheVariants.{Arithmetic, Extremes, Products, Saturating}
+use Rattle.neon_lane.specs.declared.arithmetic.Arithmetic.TheVariants.{VmulqS8, VmulqS16, VmulqS32}
+use Rattle.neon_lane.specs.declared.extremes.Extremes.TheVariants.{VmaxqS8, VmaxqS16, VmaxqS32, VminqS8, VminqS16, VminqS32}
 use Rattle.neon_lane.specs.declared.products.Products.TheVariants.{VmullS16, VmullU16, VmullS32, VmullU32, VmullHighS16, VmullHighU16, VpaddlqU8, VpaddlqU16, VpaddlqU32, VpaddqS32}
 use Rattle.neon_lane.specs.declared.saturating.Saturating.TheVariants.{VabdqU8}
 use Rattle.neon_move.specs.declared.MoveOp.{MoveOp}
@@ -14,7 +18,7 @@ use Rattle.neon_move.specs.declared.permuting.Permuting.TheVariants.{Vuzp2qU16}
 use Rattle.neon_move.specs.declared.to_unsigned.ToUnsigned.TheVariants.{VreinterpretqU16S32, VreinterpretqU16U32}
 use Rattle.neon_table.specs.declared.NeonOp.{NeonOp}
 use Rattle.neon_table.specs.Rows.{of_lane, of_move}
-use Rattle.seq_core.specs.Terms.{Term, Param, Call, NoTerms, More}
+use Rattle.seq_core.specs.Terms.{Term, Param, Const, Call, NoTerms, More}
 use Rattle.seq_arith.specs.Calls.{reread, into, back, on_two}
 
 -- the call of a row on vectors of its own elements
@@ -72,3 +76,27 @@ rounded x = Call (of_move (Narrowed VrshrnNS32)) (More x NoTerms) 15
 
 abbrev pub rounded_products : Term
 rounded_products = back S16 (two (of_move (Halves VcombineS16)) (rounded (low_products true)) (rounded (high_products true)))
+
+-- 1 in each lane, and -1
+abbrev pub ones : Width → List ℕ
+ones Byte = 1 ∷ 1 ∷ 1 ∷ 1 ∷ 1 ∷ 1 ∷ 1 ∷ 1 ∷ 1 ∷ 1 ∷ 1 ∷ 1 ∷ 1 ∷ 1 ∷ 1 ∷ 1 ∷ []
+ones Word = 1 ∷ 0 ∷ 1 ∷ 0 ∷ 1 ∷ 0 ∷ 1 ∷ 0 ∷ 1 ∷ 0 ∷ 1 ∷ 0 ∷ 1 ∷ 0 ∷ 1 ∷ 0 ∷ []
+ones Dword = 1 ∷ 0 ∷ 0 ∷ 0 ∷ 1 ∷ 0 ∷ 0 ∷ 0 ∷ 1 ∷ 0 ∷ 0 ∷ 0 ∷ 1 ∷ 0 ∷ 0 ∷ 0 ∷ []
+ones Qword = 1 ∷ 0 ∷ 0 ∷ 0 ∷ 0 ∷ 0 ∷ 0 ∷ 0 ∷ 1 ∷ 0 ∷ 0 ∷ 0 ∷ 0 ∷ 0 ∷ 0 ∷ 0 ∷ []
+
+abbrev pub minus_ones : List ℕ
+minus_ones = replicate 16 255
+
+-- the second operand cut to 1 and -1, by the rows for these elements
+abbrev pub cut : LaneOp → LaneOp → NeonLane → List ℕ → Term
+cut greater lesser t one = two (of_lane greater) (two (of_lane lesser) (into t (Param 1)) (into t (Const one))) (into t (Const minus_ones))
+
+-- the first operand times the sign of the second
+abbrev pub by_sign : LaneOp → LaneOp → LaneOp → NeonLane → List ℕ → Term
+by_sign product greater lesser t one =
+    back t (two (of_lane product) (into t (Param 0)) (cut greater lesser t one))
+
+abbrev pub signs : Width → Term
+signs Byte = by_sign (Arithmetic VmulqS8) (Extremes VmaxqS8) (Extremes VminqS8) S8 (ones Byte)
+signs Word = by_sign (Arithmetic VmulqS16) (Extremes VmaxqS16) (Extremes VminqS16) S16 (ones Word)
+signs _ = by_sign (Arithmetic VmulqS32) (Extremes VmaxqS32) (Extremes VminqS32) S32 (ones Dword)

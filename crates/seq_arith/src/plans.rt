@@ -11,12 +11,12 @@ ghost use Rattle.seq_core.specs.Values.{evaluated};
 ghost use Rattle.seq_core.specs.Formed.{WellFormed};
 ghost use Rattle.seq_core.specs.Called.{rows_called, plain};
 ghost use Rattle.seq_arith.specs.Calls.{operands};
-ghost use Rattle.seq_arith.specs.Plans.{shifted_by, sequence_of, ordered, for_words, planned_lanes, uneven, planned_pairs, planned_two, planned, is_arithmetic, plan_of};
+ghost use Rattle.seq_arith.specs.Plans.{shifted_by, sequence_of, ordered, for_words, for_sign, planned_lanes, uneven, planned_pairs, planned_two, planned, is_arithmetic, plan_of};
 ghost use Rattle.seq_arith.specs.Listed.{listed};
 
 use crate::calls::{on_one, on_two, over_one, over_two};
 use crate::products::{
-    added_products, differences, even_products, high_words, on_uneven, rounded_products,
+    added_products, differences, even_products, high_words, on_uneven, rounded_products, signs,
 };
 use crate::rows::{is_exchanged, pair_sums, row1, row2, shift_row};
 use intel_forms::{Form, Size};
@@ -50,6 +50,8 @@ enum Shape {
     SumDifferences,
     /// The products of words over 2^15, a half rounded up.
     RoundedProducts,
+    /// The first operand times the sign of the second.
+    Signs(Width),
     /// A shift by the immediate.
     Shifted(Shift, Width),
 }
@@ -108,6 +110,7 @@ fn sequence(alloc: Global, shape: Shape, imm: u16) -> Result<Seq, AllocError>
         Shape::AddedProducts => over_two(alloc, added_products(alloc)?),
         Shape::SumDifferences => over_two(alloc, differences(alloc)?),
         Shape::RoundedProducts => over_two(alloc, rounded_products(alloc)?),
+        Shape::Signs(width) => over_two(alloc, signs(alloc, width)?),
         Shape::Shifted(shift, width) => shifted(alloc, shift, width, imm),
     }
 }
@@ -131,12 +134,23 @@ fn for_words(width: Width, shape: Shape) -> Option<Shape>
     }
 }
 
+/// Where one row multiplies the lanes.
+fn for_sign(width: Width) -> Option<Shape>
+    ensures { result ≡ for_sign width }
+{
+    match width {
+        Width::Qword => None,
+        Width::Byte | Width::Word | Width::Dword => Some(Shape::Signs(width)),
+    }
+}
+
 fn planned_lanes(op: Lane2, width: Width) -> Option<Shape>
     ensures { result ≡ planned_lanes op width }
 {
     match op {
         Lane2::MultiplyHigh => for_words(width, Shape::HighWords(true)),
         Lane2::MultiplyHighUnsigned => for_words(width, Shape::HighWords(false)),
+        Lane2::Sign => for_sign(width),
         Lane2::MultiplyRound => for_words(width, Shape::RoundedProducts),
         _ => match row2(op, width) {
             Some(row) => Some(ordered(is_exchanged(op), row)),

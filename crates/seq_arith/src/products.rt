@@ -2,12 +2,15 @@
 
 ghost use Rattle.std.specs.Prelude.{◌≡◌, IfOk};
 ghost use Rattle.seq_core.specs.View.{view};
-ghost use Rattle.seq_arith.specs.Products.{on_whole, on_parts, low_products, high_products, as_words, high_words, even_products, on_uneven, one, added_products, differences, rounded, rounded_products};
+ghost use Rattle.seq_arith.specs.Products.{on_whole, on_parts, low_products, high_products, as_words, high_words, even_products, on_uneven, one, added_products, differences, rounded, rounded_products, cut, by_sign, signs};
 ghost use Rattle.neon_table.specs.Rows.{of_lane};
 
 use crate::calls::{back, into, on_two, reread};
-use lane_core::vector::NeonLane::{self, S16, S32, S64, U16, U64};
+use intel_lanes::lanes::Width;
+use lane_core::vector::NeonLane::{self, S8, S16, S32, S64, U16, U64};
 use neon_lane::LaneOp;
+use neon_lane::arithmetic::Arithmetic;
+use neon_lane::extremes::Extremes;
 use neon_lane::products::Products;
 use neon_lane::saturating::Saturating;
 use neon_move::MoveOp;
@@ -161,4 +164,81 @@ pub fn rounded_products(alloc: Global) -> Result<Term, AllocError>
     let high = rounded(alloc, high_products(alloc, true)?)?;
     let row = moving(MoveOp::Halves(Halves::VcombineS16));
     back(alloc, S16, build::call_two(alloc, row, low, high, 0)?)
+}
+
+/// The rows of one width that `by_sign` calls.
+#[derive(Clone, Copy)]
+struct SignRows {
+    product: LaneOp,
+    greater: LaneOp,
+    lesser: LaneOp,
+    elements: NeonLane,
+}
+
+/// The second operand cut to 1 and -1.
+fn cut(alloc: Global, rows: SignRows, one: [u8; 16]) -> Result<Term, AllocError>
+    ensures { IfOk result (λ t. view t ≡ cut rows.greater rows.lesser rows.elements one) }
+{
+    let b = into(alloc, rows.elements, Term::Param(1))?;
+    let one = into(alloc, rows.elements, Term::Const(one))?;
+    let minus = into(alloc, rows.elements, Term::Const([255; 16]))?;
+    let least = build::call_two(alloc, computing(rows.lesser), b, one, 0)?;
+    build::call_two(alloc, computing(rows.greater), least, minus, 0)
+}
+
+/// The first operand times the sign of the second.
+fn by_sign(alloc: Global, rows: SignRows, one: [u8; 16]) -> Result<Term, AllocError>
+    ensures { IfOk result (λ t. view t ≡ by_sign rows.product rows.greater rows.lesser rows.elements one) }
+{
+    let a = into(alloc, rows.elements, Term::Param(0))?;
+    let b = cut(alloc, rows, one)?;
+    let product = build::call_two(alloc, computing(rows.product), a, b, 0)?;
+    back(alloc, rows.elements, product)
+}
+
+/// The first operand with the signs of the second, for bytes, words and dwords.
+pub fn signs(alloc: Global, width: Width) -> Result<Term, AllocError>
+    ensures { IfOk result (λ t. view t ≡ signs width) }
+{
+    match width {
+        Width::Byte => {
+            let rows = SignRows {
+                product: LaneOp::Arithmetic(Arithmetic::VmulqS8),
+                greater: LaneOp::Extremes(Extremes::VmaxqS8),
+                lesser: LaneOp::Extremes(Extremes::VminqS8),
+                elements: S8,
+            };
+            by_sign(
+                alloc,
+                rows,
+                [1, 1, 1, 1, 1, 1, 1, 1, 1, 1, 1, 1, 1, 1, 1, 1],
+            )
+        }
+        Width::Word => {
+            let rows = SignRows {
+                product: LaneOp::Arithmetic(Arithmetic::VmulqS16),
+                greater: LaneOp::Extremes(Extremes::VmaxqS16),
+                lesser: LaneOp::Extremes(Extremes::VminqS16),
+                elements: S16,
+            };
+            by_sign(
+                alloc,
+                rows,
+                [1, 0, 1, 0, 1, 0, 1, 0, 1, 0, 1, 0, 1, 0, 1, 0],
+            )
+        }
+        Width::Dword | Width::Qword => {
+            let rows = SignRows {
+                product: LaneOp::Arithmetic(Arithmetic::VmulqS32),
+                greater: LaneOp::Extremes(Extremes::VmaxqS32),
+                lesser: LaneOp::Extremes(Extremes::VminqS32),
+                elements: S32,
+            };
+            by_sign(
+                alloc,
+                rows,
+                [1, 0, 0, 0, 1, 0, 0, 0, 1, 0, 0, 0, 1, 0, 0, 0],
+            )
+        }
+    }
 }
