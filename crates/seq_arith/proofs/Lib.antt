@@ -3,5 +3,6 @@ pub mod Wide
 pub mod Sums
 pub mod Rounded
 pub mod Signs
+pub mod Dwords
 pub mod Values
 pub mod Shapes

@@ -27,6 +27,7 @@ use Rattle.seq_arith.specs.Rows.{shift_row_of}
 use Rattle.seq_arith.specs.Plans.{shifted_by, sequence_of, planned_two, planned}
 use Rattle.seq_arith.specs.Listed.{one_row, listed2, listed_pairs, listed_shift, listed}
 use Rattle.seq_arith.proofs.Signs.{ones_register, minus_register}
+use Rattle.seq_arith.proofs.Dwords.{limit_register}
 use Rattle.seq_arith.proofs.Values.{When}
 
 -- the rows have these names, where names are due
@@ -41,12 +42,18 @@ lanes1_whole : (width : Width) (imm : ℕ) → When (IsWhole (Some (one_row (cod
 lanes1_whole Byte imm = search (rules, arith) depth 14
 lanes1_whole _ imm = search (rules, arith) depth 14
 
+shifts_whole : (s : Shift) (imm : ℕ) → When (IsWhole None) (Some (shape.ShiftedBy s)) imm
+shifts_whole shift.Left imm = search (rules, arith, limit_register shift.Left) depth 20
+shifts_whole shift.Right imm = search (rules, arith, limit_register shift.Right) depth 20
+shifts_whole shift.Arithmetic imm = search (rules, arith, limit_register shift.Arithmetic) depth 20
+
 lanes2_whole : (o : Lane2) (width : Width) (imm : ℕ) → When (IsWhole (listed2 o width)) (planned_two (two.Lanes o width)) imm
 lanes2_whole op.Add Byte imm = search (rules, arith) depth 14
 lanes2_whole op.MultiplyRound Word imm = search (rules, arith) depth 20
 lanes2_whole op.Sign Byte imm = search (rules, arith, ones_register Byte, minus_register) depth 20
 lanes2_whole op.Sign Word imm = search (rules, arith, ones_register Word, minus_register) depth 20
 lanes2_whole op.Sign Dword imm = search (rules, arith, ones_register Dword, minus_register) depth 20
+lanes2_whole (op.ShiftBy s) Dword imm = shifts_whole s imm
 lanes2_whole op.MultiplyHigh Word imm = search (rules, arith) depth 20
 lanes2_whole op.MultiplyHighUnsigned Word imm = search (rules, arith) depth 20
 lanes2_whole _ Byte imm = search (rules, arith) depth 14

@@ -43,6 +43,7 @@ use Rattle.seq_arith.specs.Plans.{shifted_by, sequence_of, planned_two, planned}
 use Rattle.seq_arith.proofs.Sums.{added_products, differences}
 use Rattle.seq_arith.proofs.Rounded.{rounded_products}
 use Rattle.seq_arith.proofs.Signs.{signs_1, signs_2, signs_4}
+use Rattle.seq_arith.proofs.Dwords.{left_dwords, right_dwords, arithmetic_dwords}
 use Rattle.seq_arith.proofs.Wide.{uneven, high_signed, high_unsigned, even_signed, even_unsigned}
 use Rattle.seq_arith.proofs.Kernels.{saturate_is, saturate_unsigned_is, average_is, min_is, min_unsigned_is, max_unsigned_is, absolute_is, none_shifted, right_is, arithmetic_is}
 
@@ -146,6 +147,9 @@ lanes2_give op.MultiplyRound Word imm = λ a b h k. as_register (rounded_product
 lanes2_give op.Sign Byte imm = λ a b h k. as_register (signs_1 a b h k)
 lanes2_give op.Sign Word imm = λ a b h k. as_register (signs_2 a b h k)
 lanes2_give op.Sign Dword imm = λ a b h k. as_register (signs_4 a b h k)
+lanes2_give (op.ShiftBy shift.Left) Dword imm = λ a b h k. as_register (left_dwords a b h k)
+lanes2_give (op.ShiftBy shift.Right) Dword imm = λ a b h k. as_register (right_dwords a b h k)
+lanes2_give (op.ShiftBy shift.Arithmetic) Dword imm = λ a b h k. as_register (arithmetic_dwords a b h k)
 lanes2_give op.Min Byte imm = λ a b h k. as_register (least 1 a b h k)
 lanes2_give op.Min Word imm = λ a b h k. as_register (least 2 a b h k)
 lanes2_give op.Min Dword imm = λ a b h k. as_register (least 4 a b h k)

@@ -1,5 +1,6 @@
 pub mod Calls
 pub mod Products
+pub mod Counts
 pub mod Rows
 pub mod Plans
 pub mod Listed

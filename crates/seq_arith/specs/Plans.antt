@@ -24,6 +24,7 @@ use Rattle.seq_arith.specs.declared.plans.Shape.{Shape}
 use Rattle.seq_arith.specs.declared.plans.Shape.TheVariants as shape
 use Rattle.seq_arith.specs.Calls.{on_one, on_two, over_one, over_two}
 use Rattle.seq_arith.specs.Rows.{row1_of, row2_of, is_exchanged, pair_sums, shift_row_of}
+use Rattle.seq_arith.specs.Counts.{dword_shifts}
 use Rattle.seq_arith.specs.Products.{high_words, even_products, on_uneven, added_products, differences, rounded_products, signs}
 
 -- a shift of the first operand by a constant that isn't 0: none is left from the width on, or the sign
@@ -43,6 +44,7 @@ sequence_of shape.AddedProducts imm = over_two added_products
 sequence_of shape.SumDifferences imm = over_two differences
 sequence_of shape.RoundedProducts imm = over_two rounded_products
 sequence_of (shape.Signs width) imm = over_two (signs width)
+sequence_of (shape.ShiftedBy s) imm = over_two (dword_shifts s)
 sequence_of (shape.Shifted shift width) imm = over_one (if imm == 0 then Param 0 else shifted_by shift width imm)
 
 abbrev pub ordered : Bool → NeonOp → Shape
@@ -52,6 +54,11 @@ ordered exchanged row = if exchanged then shape.Exchanged row else shape.Two row
 abbrev pub for_words : Width → Shape → Option Shape
 for_words Word s = Some s
 for_words _ s = None
+
+-- where the lanes are dwords
+abbrev pub for_dwords : Width → Shape → Option Shape
+for_dwords Dword s = Some s
+for_dwords _ s = None
 
 -- where one row multiplies the lanes
 abbrev pub for_sign : Width → Option Shape
@@ -63,6 +70,7 @@ planned_lanes op.MultiplyHigh width = for_words width (shape.HighWords true)
 planned_lanes op.MultiplyHighUnsigned width = for_words width (shape.HighWords false)
 planned_lanes op.MultiplyRound width = for_words width shape.RoundedProducts
 planned_lanes op.Sign width = for_sign width
+planned_lanes (op.ShiftBy s) width = for_dwords width (shape.ShiftedBy s)
 planned_lanes o width = option_map (ordered (is_exchanged o)) (row2_of o width)
 
 -- a row of even and odd lanes

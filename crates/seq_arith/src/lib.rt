@@ -2,6 +2,7 @@
 #![tactic(auto)]
 
 mod calls;
+mod counts;
 mod plans;
 mod products;
 mod rows;

@@ -11,10 +11,11 @@ ghost use Rattle.seq_core.specs.Values.{evaluated};
 ghost use Rattle.seq_core.specs.Formed.{WellFormed};
 ghost use Rattle.seq_core.specs.Called.{rows_called, plain};
 ghost use Rattle.seq_arith.specs.Calls.{operands};
-ghost use Rattle.seq_arith.specs.Plans.{shifted_by, sequence_of, ordered, for_words, for_sign, planned_lanes, uneven, planned_pairs, planned_two, planned, is_arithmetic, plan_of};
+ghost use Rattle.seq_arith.specs.Plans.{shifted_by, sequence_of, ordered, for_words, for_dwords, for_sign, planned_lanes, uneven, planned_pairs, planned_two, planned, is_arithmetic, plan_of};
 ghost use Rattle.seq_arith.specs.Listed.{listed};
 
 use crate::calls::{on_one, on_two, over_one, over_two};
+use crate::counts::dword_shifts;
 use crate::products::{
     added_products, differences, even_products, high_words, on_uneven, rounded_products, signs,
 };
@@ -52,6 +53,8 @@ enum Shape {
     RoundedProducts,
     /// The first operand times the sign of the second.
     Signs(Width),
+    /// The dwords of the first operand shifted by those of the second.
+    ShiftedBy(Shift),
     /// A shift by the immediate.
     Shifted(Shift, Width),
 }
@@ -111,6 +114,7 @@ fn sequence(alloc: Global, shape: Shape, imm: u16) -> Result<Seq, AllocError>
         Shape::SumDifferences => over_two(alloc, differences(alloc)?),
         Shape::RoundedProducts => over_two(alloc, rounded_products(alloc)?),
         Shape::Signs(width) => over_two(alloc, signs(alloc, width)?),
+        Shape::ShiftedBy(shift) => over_two(alloc, dword_shifts(alloc, shift)?),
         Shape::Shifted(shift, width) => shifted(alloc, shift, width, imm),
     }
 }
@@ -134,6 +138,15 @@ fn for_words(width: Width, shape: Shape) -> Option<Shape>
     }
 }
 
+fn for_dwords(width: Width, shape: Shape) -> Option<Shape>
+    ensures { result ≡ for_dwords width shape }
+{
+    match width {
+        Width::Dword => Some(shape),
+        Width::Byte | Width::Word | Width::Qword => None,
+    }
+}
+
 /// Where one row multiplies the lanes.
 fn for_sign(width: Width) -> Option<Shape>
     ensures { result ≡ for_sign width }
@@ -151,6 +164,7 @@ fn planned_lanes(op: Lane2, width: Width) -> Option<Shape>
         Lane2::MultiplyHigh => for_words(width, Shape::HighWords(true)),
         Lane2::MultiplyHighUnsigned => for_words(width, Shape::HighWords(false)),
         Lane2::Sign => for_sign(width),
+        Lane2::ShiftBy(shift) => for_dwords(width, Shape::ShiftedBy(shift)),
         Lane2::MultiplyRound => for_words(width, Shape::RoundedProducts),
         _ => match row2(op, width) {
             Some(row) => Some(ordered(is_exchanged(op), row)),
