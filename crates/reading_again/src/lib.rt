@@ -1,0 +1,7 @@
+//! What a unit that is written does, the unit that is read from its text does too: laws of the check and of the meaning, over all units.
+#![tactic(auto)]
+
+mod laws;
+
+pub use c_tree::CType;
+pub use laws::places_do_not_count;
