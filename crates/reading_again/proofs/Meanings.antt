@@ -1,9 +1,8 @@
 -- Places don't count for what a unit does.
-use Rattle.std.proofs.Common.{◌≡◌, ℕ, zero, suc, ◌+◌, List, [], ◌∷◌, Bool, true, false, ◌||◌, not, ◌++◌, Option, Some, None, refl, sym, ap, ◌∙◌, map, length, if◌then◌else◌}
+use Rattle.std.proofs.Common.{◌≡◌, ℕ, ◌+◌, List, [], ◌∷◌, Bool, true, false, ◌||◌, not, ◌++◌, Option, Some, None, refl, sym, ap, ◌∙◌, map, length, if◌then◌else◌}
 use Rattle.std.specs.Prelude.{option_map}
 use Rattle.std.specs.Str.{bytes_eq}
 use Rattle.lane_core.specs.declared.number.IntType.{IntType}
-use Rattle.lane_core.specs.declared.number.Num.{Num}
 use Rattle.lane_core.specs.declared.vector.Pointee.{Pointee}
 use Rattle.c_tree.specs.declared.types.CType.{CType}
 use Rattle.c_tree.specs.declared.types.CType.TheVariants as ctype
@@ -16,11 +15,10 @@ use Rattle.const_imm.specs.Constant as constant
 use Rattle.const_imm.specs.Constant.{value_of, kind_value, kind_type}
 use Rattle.c_memory.specs.declared.blocks.Block.{Block as MemoryBlock}
 use Rattle.c_memory.specs.declared.value.Value.{Value}
-use Rattle.c_memory.specs.Outcomes.{Outcome}
-use Rattle.c_memory.specs.MeaningState.{InBlock, Done, Binding, State, Does, ◌>>=◌, ◌>>◌, scoped, then_do}
+use Rattle.c_memory.specs.MeaningState.{InBlock, Done, Binding, Does, ◌>>=◌, ◌>>◌, scoped, then_do}
 use Rattle.c_memory.specs.MeaningObjects.{block_of, is_const, unset_bytes, written_alignment, constants_bytes, array_bytes}
-use Rattle.c_memory.specs.Meaning.{Calls, type_of, name_in, expression, kind_expression, target, kind_target, last, values, begin_object, initialised, declare_one, declare, Later, no_more, Flow, condition, loops, loops_after, with_step, on_next, optional_condition, optional_value, returned, act, optional_act, optional_body, sequence, begin_parameter, begin_parameters, result, back_to, call_of, spend_for, with_function, outermost, functions, constant_bytes, table_block, table_blocks, table_objects, outcome, means}
-use Rattle.reading_again.specs.Rewritten.{statement, statements, optional, definition, external, unit}
+use Rattle.c_memory.specs.Meaning.{Calls, type_of, name_in, expression, kind_expression, target, kind_target, last, values, begin_object, initialised, declare_one, declare, Later, no_more, Flow, condition, loops, loops_after, with_step, on_next, optional_condition, optional_value, returned, act, optional_act, optional_body, sequence, begin_parameter, begin_parameters, result, back_to, call_of, spend_for, with_function, outermost, functions, constant_bytes, table_block, table_blocks, table_objects, means}
+use Rattle.reading_again.specs.Rewritten.{statement, statements, optional, definition, unit}
 use Rattle.reading_again.specs.Unplaced.{unplaced, unplaced_kind, unplaced_all, unplaced_object, places, DifferInPlaces}
 
 -- ---- constant expressions
