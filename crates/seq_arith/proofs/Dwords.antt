@@ -1,5 +1,5 @@
 -- Dwords shifted by dwords, where counts are cut to the width, or to one bit less.
-use Rattle.std.proofs.Common.{◌≡◌, ℕ, zero, suc, ◌+◌, ◌-◌, ◌*◌, ◌/◌, ◌%◌, ◌^◌, ◌<◌, ◌≤◌, List, true, false, refl, ap, sym, subst, ◌∙◌, arith, rules, ℤ, pos, negsuc, ◌-ℤ◌, inl, inr}
+use Rattle.std.proofs.Common.{◌≡◌, ℕ, zero, suc, ◌-◌, ◌*◌, ◌/◌, ◌%◌, ◌^◌, ◌<◌, ◌≤◌, List, true, false, refl, ap, sym, subst, ◌∙◌, arith, rules, ℤ, pos, negsuc, ◌-ℤ◌, inl, inr}
 use Rattle.std.specs.Prelude.{nat_lt, int_lt, min, if◌then◌else◌}
 use Rattle.std.specs.Int.{int_shr}
 use Rattle.std.proofs.lemmas.Bool.{cases_lt}

@@ -1,6 +1,6 @@
 -- The first operand times the sign of the second: 1, 0 or -1.
-use Rattle.std.proofs.Common.{◌≡◌, ℕ, ◌+◌, ◌-◌, ◌*◌, ◌/◌, ◌%◌, ◌^◌, ◌<◌, List, Bool, true, false, refl, ap, sym, subst, ◌∙◌, arith, ℤ, pos, ◌-ℤ◌}
-use Rattle.std.specs.Prelude.{◌==◌, int_lt, replicate, if◌then◌else◌}
+use Rattle.std.proofs.Common.{◌≡◌, ℕ, ◌-◌, ◌*◌, ◌/◌, ◌%◌, ◌^◌, ◌<◌, List, Bool, true, false, refl, ap, sym, subst, ◌∙◌, arith, pos, ◌-ℤ◌}
+use Rattle.std.specs.Prelude.{◌==◌, int_lt, if◌then◌else◌}
 use Rattle.std.proofs.lemmas.Int.{ints}
 use Rattle.std.proofs.Math.Nat.{mod-eq_of_lt}
 use Rattle.lane_core.specs.Register.{IsRegister, lane, build, signed, wrapped}

@@ -3,7 +3,6 @@ use Rattle.std.specs.Prelude.{ℕ, List, [], ◌∷◌}
 use Rattle.lane_core.specs.declared.vector.NeonLane.TheVariants.{U32, S32}
 use Rattle.intel_lanes.specs.declared.lanes.Shift.{Shift}
 use Rattle.intel_lanes.specs.declared.lanes.Shift.TheVariants.{Left, Right, Arithmetic}
-use Rattle.neon_lane.specs.declared.LaneOp.{LaneOp}
 use Rattle.neon_lane.specs.declared.LaneOp.TheVariants as group
 use Rattle.neon_lane.specs.declared.arithmetic.Arithmetic.TheVariants.{VnegqS32}
 use Rattle.neon_lane.specs.declared.extremes.Extremes.TheVariants.{VminqU32}
