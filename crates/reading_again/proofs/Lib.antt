@@ -1,1 +1,15 @@
 mod Meanings
+mod Answers
+mod Nodes
+mod Expressions
+mod Constants
+mod Objects
+mod Statements
+mod Order
+mod Units
+mod Plain
+mod Same
+mod Fixed
+mod FixedObjects
+mod FixedStatements
+mod FixedUnits

@@ -89,7 +89,7 @@ pub same_takes_optional : (x : List ℕ) (e : Option Tree) → takes_optional x 
 same_takes_optional x None = refl
 same_takes_optional x (Some e) = same_takes x e
 
-same_takes_declared : (x : List ℕ) (all : List Object) → takes_declared x (map unplaced_object all) ≡ takes_declared x all
+pub same_takes_declared : (x : List ℕ) (all : List Object) → takes_declared x (map unplaced_object all) ≡ takes_declared x all
 same_takes_declared x [] = refl
 same_takes_declared x (d ∷ rest) = rw (same_takes_optional x d.init, same_takes_declared x rest) refl
 

@@ -1,2 +1,5 @@
 pub mod Rewritten
 pub mod Unplaced
+pub mod Answers
+pub mod Plain
+pub mod Left

@@ -4,4 +4,4 @@
 mod laws;
 
 pub use c_tree::CType;
-pub use laws::places_do_not_count;
+pub use laws::{a_typed_unit_is_given_back, places_do_not_count, same_trees_get_the_same_types};
