@@ -1,6 +1,6 @@
 //! Every row of Arm's table called, with what the real `arm_neon.h` gives under `qemu-aarch64`: `bench/neon_rows.py` writes these lines.
 //!
-//! The text of a function, and behind it, on lines that begin with a space, items and what a run with them prints, `$` for a line end but the last.
+//! The text of a function, and behind it, on lines with `->`, items and what a run with them prints, `$` for a line end but the last.
 
 pub const PART_0: &str = "\
 uint16x8_t f(uint8x16_t p0, uint8x16_t p1) { return vabdl_high_u8(p0, p1); }\n\

@@ -1,6 +1,6 @@
 //! Every row of Intel's table called, with what a processor gives, by `gcc -mavx2`: `bench/intel_rows.py` writes these lines.
 //!
-//! The text of a function, and behind it, on lines that begin with a space, items and what a run with them prints, `$` for a line end but the last.
+//! The text of a function, and behind it, on lines with `->`, items and what a run with them prints, `$` for a line end but the last.
 
 pub const PART_0: &str = "\
 __m256i f(__m256i p0) { return _mm256_abs_epi16(p0); }\n\

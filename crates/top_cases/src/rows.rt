@@ -7,9 +7,9 @@ use std::alloc::Global;
 use std::process::Abort;
 use std::test::Fail;
 
-// The text of a function, and behind it, on lines that begin with a space, items and what a run with them prints, `$` for a line end but the last.
+// The text of a function, and behind it, on lines with `->`, items and what a run with them prints, `$` for a line end but the last.
 // The values are those of a processor, by `gcc -msse2`; accesses are by Intel's Guide.
-const INTEL: &str = "\
+pub(crate) const INTEL: &str = "\
 __m128i f(__m128i a, __m128i b) { return _mm_add_epi8(a, b); }\n\
  vec:0001027f8081feff00ff7f8055aa10c8 vec:00ff0180807fffffff007f81aa55f064 -> value vec 000003ff0000fdfefffffe01ffff002c\n\
  vec:ffff000001807f400309fa1163c9214d vec:ff00ff0102807e410408fbf062ca1fb2 -> value vec feffff010300fd810711f501c59340ff\n\
@@ -64,7 +64,12 @@ void f(uint8_t *p, uint8x16_t a) { vst1q_u8(p, a); }\n\
  block:1:ro:0001027f8081feff00ff7f8055aa10c8 at:0:0 vec:0001027f8081feff00ff7f8055aa10c8 -> undefined";
 
 // What a run prints, without its last line end and with `$` for the others.
-fn printed(alloc: Global, dialect: &str, text: &[u8], items: &str) -> Result<Vec<u8>, Fail> {
+pub(crate) fn printed(
+    alloc: Global,
+    dialect: &str,
+    text: &[u8],
+    items: &str,
+) -> Result<Vec<u8>, Fail> {
     let mut words = Vec::new(alloc);
     words.extend_from_slice(&["run", dialect, "f", "0"])?;
     for item in items.split(' ') {
@@ -83,61 +88,104 @@ fn printed(alloc: Global, dialect: &str, text: &[u8], items: &str) -> Result<Vec
     Ok(out)
 }
 
-fn rows_are_called(rt: &impl Abort, alloc: Global, dialect: &str, table: &str) -> Result<(), Fail> {
+// Runs each line with an outcome; gives how many there are.
+fn rows_are_called(
+    rt: &impl Abort,
+    alloc: Global,
+    dialect: &str,
+    table: &str,
+) -> Result<usize, Fail> {
     let mut text = b"".as_slice();
+    let mut count = 0usize;
     for line in table.split('\n') {
-        match line.strip_prefix(" ") {
+        match line.split_once("-> ") {
             None => text = line.as_bytes(),
-            Some(row) => {
-                let (items, wanted) = row.split_once(" -> ").ok_or("no outcome")?;
+            Some((items, wanted)) => {
                 let found = printed(alloc, dialect, text, items)?;
-                assert_eq!(rt; found.as_slice(), wanted.as_bytes(), "{row}");
+                assert_eq!(rt; found.as_slice(), wanted.as_bytes(), "{line}");
+                count = count.saturating_add(1);
             }
         }
     }
-    Ok(())
+    Ok(count)
 }
 
 #[test]
 fn rows_of_intel_have_the_listed_values(rt: HostRuntime) -> Result<(), Fail> {
-    rows_are_called(&rt, rt.alloc(), "x86", INTEL)
+    let count = rows_are_called(&rt, rt.alloc(), "x86", INTEL)?;
+    assert_eq!(rt; count, 18);
+    Ok(())
 }
 
 #[test]
 fn rows_of_arm_have_the_listed_values(rt: HostRuntime) -> Result<(), Fail> {
-    rows_are_called(&rt, rt.alloc(), "neon", NEON)
-}
-
-#[test]
-fn every_row_of_intel_is_as_a_processor_has_it(rt: HostRuntime) -> Result<(), Fail> {
-    let alloc = rt.alloc();
-    rows_are_called(&rt, alloc, "x86", intel_rows::PART_0)?;
-    rows_are_called(&rt, alloc, "x86", intel_rows::PART_1)?;
-    rows_are_called(&rt, alloc, "x86", intel_rows::PART_2)?;
-    rows_are_called(&rt, alloc, "x86", intel_rows::PART_3)?;
-    rows_are_called(&rt, alloc, "x86", intel_rows::PART_4)?;
-    rows_are_called(&rt, alloc, "x86", intel_rows::PART_5)?;
-    rows_are_called(&rt, alloc, "x86", intel_rows::PART_6)?;
-    rows_are_called(&rt, alloc, "x86", intel_rows::PART_7)?;
-    rows_are_called(&rt, alloc, "x86", intel_rows::PART_8)?;
-    rows_are_called(&rt, alloc, "x86", intel_rows::PART_9)?;
-    rows_are_called(&rt, alloc, "x86", intel_rows::PART_10)?;
-    rows_are_called(&rt, alloc, "x86", intel_rows::PART_11)?;
-    rows_are_called(&rt, alloc, "x86", intel_rows::PART_12)?;
+    let count = rows_are_called(&rt, rt.alloc(), "neon", NEON)?;
+    assert_eq!(rt; count, 15);
     Ok(())
 }
 
-#[test]
-fn every_row_of_arm_is_as_its_compiler_has_it(rt: HostRuntime) -> Result<(), Fail> {
-    let alloc = rt.alloc();
-    rows_are_called(&rt, alloc, "neon", arm_rows::PART_0)?;
-    rows_are_called(&rt, alloc, "neon", arm_rows::PART_1)?;
-    rows_are_called(&rt, alloc, "neon", arm_rows::PART_2)?;
-    rows_are_called(&rt, alloc, "neon", arm_rows::PART_3)?;
-    rows_are_called(&rt, alloc, "neon", arm_rows::PART_4)?;
-    rows_are_called(&rt, alloc, "neon", arm_rows::PART_5)?;
-    rows_are_called(&rt, alloc, "neon", arm_rows::PART_6)?;
-    rows_are_called(&rt, alloc, "neon", arm_rows::PART_7)?;
-    rows_are_called(&rt, alloc, "neon", arm_rows::PART_8)?;
+// Runs all lines of the parts, of which there are so many.
+fn parts_are_called(
+    rt: &impl Abort,
+    alloc: Global,
+    dialect: &str,
+    parts: &[&str],
+    wanted: usize,
+) -> Result<(), Fail> {
+    let mut count = 0usize;
+    for part in parts {
+        count = count.saturating_add(rows_are_called(rt, alloc, dialect, part)?);
+    }
+    assert_eq!(rt; count, wanted);
     Ok(())
+}
+
+// What a processor gives.
+#[test]
+fn every_row_of_intel_0(rt: HostRuntime) -> Result<(), Fail> {
+    let parts = [intel_rows::PART_0, intel_rows::PART_1, intel_rows::PART_2];
+    parts_are_called(&rt, rt.alloc(), "x86", &parts, 205)
+}
+
+#[test]
+fn every_row_of_intel_1(rt: HostRuntime) -> Result<(), Fail> {
+    let parts = [intel_rows::PART_3, intel_rows::PART_4, intel_rows::PART_5];
+    parts_are_called(&rt, rt.alloc(), "x86", &parts, 143)
+}
+
+#[test]
+fn every_row_of_intel_2(rt: HostRuntime) -> Result<(), Fail> {
+    let parts = [intel_rows::PART_6, intel_rows::PART_7, intel_rows::PART_8];
+    parts_are_called(&rt, rt.alloc(), "x86", &parts, 230)
+}
+
+#[test]
+fn every_row_of_intel_3(rt: HostRuntime) -> Result<(), Fail> {
+    let parts = [intel_rows::PART_9, intel_rows::PART_10, intel_rows::PART_11];
+    parts_are_called(&rt, rt.alloc(), "x86", &parts, 231)
+}
+
+#[test]
+fn every_row_of_intel_4(rt: HostRuntime) -> Result<(), Fail> {
+    let parts = [intel_rows::PART_12];
+    parts_are_called(&rt, rt.alloc(), "x86", &parts, 34)
+}
+
+// What the compiler's `arm_neon.h` gives.
+#[test]
+fn every_row_of_arm_0(rt: HostRuntime) -> Result<(), Fail> {
+    let parts = [arm_rows::PART_0, arm_rows::PART_1, arm_rows::PART_2];
+    parts_are_called(&rt, rt.alloc(), "neon", &parts, 352)
+}
+
+#[test]
+fn every_row_of_arm_1(rt: HostRuntime) -> Result<(), Fail> {
+    let parts = [arm_rows::PART_3, arm_rows::PART_4, arm_rows::PART_5];
+    parts_are_called(&rt, rt.alloc(), "neon", &parts, 414)
+}
+
+#[test]
+fn every_row_of_arm_2(rt: HostRuntime) -> Result<(), Fail> {
+    let parts = [arm_rows::PART_6, arm_rows::PART_7, arm_rows::PART_8];
+    parts_are_called(&rt, rt.alloc(), "neon", &parts, 272)
 }
