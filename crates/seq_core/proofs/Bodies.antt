@@ -39,7 +39,7 @@ use Rattle.seq_core.proofs.Sizes.{sequence_keeps}
 
 -- ---- no address is taken in what is written
 
-abbrev Plain : List Tree → Type 0
+abbrev pub Plain : List Tree → Type 0
 Plain all = (x : List ℕ) (n : ℕ) (d : Tree) → takes x d ≡ false → takes x (get_or all n d) ≡ false
 
 or_false : {a b : Bool} → a ≡ false → b ≡ false → (a || b) ≡ false
@@ -68,7 +68,7 @@ takes_if true x e d h i = h
 takes_if false x e d h i = i
 
 mutual
-  takes_written : (p : Pen) (x : List ℕ) → Plain p.params → Plain p.steps → (t : Term) → takes x (written p t) ≡ false
+  pub takes_written : (p : Pen) (x : List ℕ) → Plain p.params → Plain p.steps → (t : Term) → takes x (written p t) ≡ false
   takes_written p x h i (term.Param n) = h x n (nothing p.place) refl
   takes_written p x h i (term.Step n) = i x n (nothing p.place) refl
   takes_written p x h i (term.Const r) = takes_if (bytes_eq r _) x _ _ refl refl

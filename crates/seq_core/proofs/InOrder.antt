@@ -21,7 +21,7 @@ use Rattle.seq_core.proofs.Pure.{bound, mapped}
 use Rattle.seq_core.proofs.InPlaced.{goes}
 
 -- each of these operands has a value
-abbrev AllRead : List Value → List ℕ → Type 0
+abbrev pub AllRead : List Value → List ℕ → Type 0
 AllRead ps [] = Unit {0}
 AllRead ps (n ∷ ns) = ((v : Value) × (slice_get ps n ≡ Some v)) × AllRead ps ns
 
@@ -30,7 +30,7 @@ both_read ps [] ms a b = b
 both_read ps (n ∷ ns) ms a b = (a.0, both_read ps ns ms a.1 b)
 
 mutual
-  all_read : (ps : List Value) (t : Term) → is_straight t ≡ true → (v : Value) → value_of ps [] t ≡ Some v → AllRead ps (leaves t)
+  pub all_read : (ps : List Value) (t : Term) → is_straight t ≡ true → (v : Value) → value_of ps [] t ≡ Some v → AllRead ps (leaves t)
   all_read ps (term.Param n) i v d = ((v, d), tt)
   all_read ps (term.Const r) i v d = tt
   all_read ps (term.Int n) i v d = tt

@@ -30,7 +30,7 @@ use Rattle.seq_core.proofs.Pure.{bound, mapped}
 use Rattle.seq_core.proofs.Constants.{constant_leads}
 
 -- an expression gives a value and leads from one state to another
-abbrev Goes : Calls → State → Tree → Value → State → Type 0
+abbrev pub Goes : Calls → State → Tree → Value → State → Type 0
 Goes c s e v t = expression e c s ≡ Done (Some v) t
 
 abbrev AllGo : Calls → State → Trees → List Value → State → Type 0

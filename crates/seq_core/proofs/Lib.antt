@@ -10,3 +10,5 @@ mod Evaluated
 mod Lists
 mod InPlaced
 mod InOrder
+mod RunningOut
+mod Addresses

@@ -1,11 +1,12 @@
 -- When the written expression may stand where the row's call stood: over operands whose expressions may change the state.
-use Rattle.std.specs.Prelude.{◌≡◌, ℕ, suc, Bool, true, false, ◌&&◌, nat_le, List, [], ◌∷◌, ◌++◌, length, Option, Some, None, get_or, slice_get, if◌then◌else◌}
+use Rattle.std.specs.Prelude.{◌≡◌, ℕ, suc, Bool, true, false, ◌&&◌, nat_le, ◌⊎◌, List, [], ◌∷◌, ◌++◌, length, Option, Some, None, get_or, slice_get, if◌then◌else◌}
 use Rattle.std.specs.Str.{bytes_eq}
 use Rattle.c_text.specs.declared.tokens.Place.{Place}
 use Rattle.c_tree.specs.declared.types.CType.{CType}
 use Rattle.c_tree.specs.Tree.{Tree}
+use Rattle.address_taken.specs.Addressed.{takes}
 use Rattle.c_memory.specs.declared.value.Value.{Value}
-use Rattle.c_memory.specs.MeaningState.{State, Done}
+use Rattle.c_memory.specs.MeaningState.{State, Done, Turns}
 use Rattle.c_memory.specs.Meaning.{Calls, expression}
 use Rattle.seq_core.specs.Rows.{AreRows}
 use Rattle.seq_core.specs.Terms.{Sequence, Term, Terms, Param, Const, Int, Call, PairOf, Scalar, Convert, NoTerms, More}
@@ -100,3 +101,24 @@ RunsAmong c place params ps simple s (n ∷ ns) u =
 abbrev pub HoldsWhereItStood : Place → List Tree → List Bool → Sequence → Type 0
 HoldsWhereItStood place params simple q = WellFormed q → stands_in_place simple q ≡ true → (c : Calls) → AreRows c → (ps : List Value) (s u : State)
     → RunsAmong c place params ps simple s (compounds simple (numbers_from 0 simple)) u → (v : Value) → sequence_value q ps ≡ Some (Some v) → expression (in_place place params q.result) c s ≡ Done (Some v) u
+
+-- the operands of these numbers run one after another up to one that wants more turns than are left
+abbrev pub RunsOut : Calls → Place → List Tree → List Value → State → List ℕ → Type 0
+RunsOut c place params ps s [] = ⊥
+RunsOut c place params ps s (n ∷ ns) =
+    (expression (get_or params n (nothing place)) c s ≡ Turns) ⊎ ((w : State) × (v : Value) × (slice_get ps n ≡ Some v) × (expression (get_or params n (nothing place)) c s ≡ Done (Some v) w) × RunsOut c place params ps w ns)
+
+-- and the simple ones are readable all the while
+abbrev pub RunsOutAmong : Calls → Place → List Tree → List Value → List Bool → State → List ℕ → Type 0
+RunsOutAmong c place params ps simple s [] = ⊥
+RunsOutAmong c place params ps simple s (n ∷ ns) =
+    Readable c place params ps simple s × ((expression (get_or params n (nothing place)) c s ≡ Turns) ⊎ ((w : State) × (v : Value) × (slice_get ps n ≡ Some v) × (expression (get_or params n (nothing place)) c s ≡ Done (Some v) w) × RunsOutAmong c place params ps simple w ns))
+
+-- Where an operand wants more turns than are left, so does the expression, whatever values those behind it would have.
+abbrev pub RunsOutWhereItStood : Place → List Tree → List Bool → Sequence → Type 0
+RunsOutWhereItStood place params simple q = WellFormed q → stands_in_place simple q ≡ true → (c : Calls) → AreRows c → (ps : List Value) (s : State)
+    → RunsOutAmong c place params ps simple s (compounds simple (numbers_from 0 simple)) → (v : Value) → sequence_value q ps ≡ Some (Some v) → expression (in_place place params q.result) c s ≡ Turns
+
+-- Where the operands' expressions take no address, what stands in place takes none.
+abbrev pub TakesNoAddress : Place → List Tree → Sequence → Type 0
+TakesNoAddress place params q = ((x : List ℕ) (n : ℕ) (e : Tree) → takes x e ≡ false → takes x (get_or params n e) ≡ false) → (x : List ℕ) → takes x (in_place place params q.result) ≡ false

@@ -6,7 +6,7 @@ ghost use Rattle.c_tree.specs.Tree.{Tree};
 ghost use Rattle.seq_core.specs.Terms.{Term as Plain, Sequence};
 ghost use Rattle.seq_core.specs.Written.{pen, written};
 ghost use Rattle.seq_core.specs.Functions.{function_of};
-ghost use Rattle.seq_core.specs.InPlace.{HoldsInPlace, HoldsWhereItStood};
+ghost use Rattle.seq_core.specs.InPlace.{HoldsInPlace, HoldsWhereItStood, RunsOutWhereItStood, TakesNoAddress};
 ghost use Rattle.seq_core.specs.Claims.{IsCallable, DoesTheSame, GivesItsValue};
 
 /// A call of the function that is written for a well-formed sequence gives the sequence's value and leaves its bytes, spends no turn and
@@ -30,4 +30,14 @@ pub fn a_straight_term_holds_in_place()
 /// evaluated once and in its order, and the simple ones read the same wherever they are read.
 pub fn a_sequence_in_place_gives_its_value()
     ensures { (place : Place) (params : List Tree) (simple : List Bool) (q : Sequence) → HoldsWhereItStood place params simple q }
+{}
+
+/// A sequence that may stand in place of a row's call wants more turns than are left where one of its operands does.
+pub fn a_sequence_in_place_runs_out_with_its_operands()
+    ensures { (place : Place) (params : List Tree) (simple : List Bool) (q : Sequence) → RunsOutWhereItStood place params simple q }
+{}
+
+/// What stands in place of a row's call takes no address where its operands take none.
+pub fn a_sequence_in_place_takes_no_address()
+    ensures { (place : Place) (params : List Tree) (q : Sequence) → TakesNoAddress place params q }
 {}

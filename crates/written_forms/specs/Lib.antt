@@ -1,0 +1,9 @@
+pub mod Seen
+pub mod Moved
+pub mod Statements
+pub mod TypedValues
+pub mod Ready
+pub mod ReadyStatements
+pub mod Helpers
+pub mod ReadyUnits
+pub mod Claims

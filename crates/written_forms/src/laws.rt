@@ -1,0 +1,26 @@
+//! What holds of what is written.
+
+ghost use Rattle.written_forms.specs.Claims.{WrittenDoesTheSame};
+
+use c_memory::braces_change_nothing;
+use seq_core::{
+    a_function_does_what_its_sequence_does, a_sequence_in_place_gives_its_value,
+    a_sequence_in_place_runs_out_with_its_operands, a_sequence_in_place_takes_no_address,
+    a_sequence_without_memory_gives_its_value,
+};
+use simulation::{a_memory_that_covers_serves, turns_are_counted_alike};
+
+/// For every function of a unit that is ready, all arguments, every memory and every bound on turns on which the unit is defined, what is
+/// written for it behind the functions of its rows gives the same value, leaves the same bytes and spends as many turns.
+pub fn what_is_written_does_the_same()
+    ensures { WrittenDoesTheSame }
+{
+    braces_change_nothing();
+    a_function_does_what_its_sequence_does();
+    a_sequence_without_memory_gives_its_value();
+    a_sequence_in_place_gives_its_value();
+    a_sequence_in_place_runs_out_with_its_operands();
+    a_sequence_in_place_takes_no_address();
+    a_memory_that_covers_serves();
+    turns_are_counted_alike();
+}
