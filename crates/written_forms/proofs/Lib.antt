@@ -16,3 +16,5 @@ mod StatementForms
 mod StatementSims
 mod Functions
 mod UnitSims
+mod VectorRows
+mod Example

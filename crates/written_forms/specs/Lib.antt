@@ -7,3 +7,4 @@ pub mod ReadyStatements
 pub mod Helpers
 pub mod ReadyUnits
 pub mod Claims
+pub mod Vectors

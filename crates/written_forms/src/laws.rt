@@ -1,6 +1,7 @@
 //! What holds of what is written.
 
 ghost use Rattle.written_forms.specs.Claims.{WrittenDoesTheSame};
+ghost use Rattle.written_forms.specs.Vectors.{VectorRowsStand};
 
 use c_memory::braces_change_nothing;
 use seq_core::{
@@ -24,3 +25,9 @@ pub fn what_is_written_does_the_same()
     a_memory_that_covers_serves();
     turns_are_counted_alike();
 }
+
+/// A sequence whose value is an Intel row's for all registers and an immediate stands for the row, where the row takes and gives registers of 128 bits
+/// and touches no memory.
+pub fn a_sequence_of_registers_stands_for_its_row()
+    ensures { VectorRowsStand }
+{}

@@ -6,4 +6,4 @@
 
 mod laws;
 
-pub use laws::what_is_written_does_the_same;
+pub use laws::{a_sequence_of_registers_stands_for_its_row, what_is_written_does_the_same};
