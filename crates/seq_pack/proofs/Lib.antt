@@ -1,0 +1,9 @@
+pub mod Packs
+pub mod Selections
+pub mod Numbers
+pub mod Signs
+pub mod Tested
+pub mod Least
+pub mod Places
+pub mod Values
+pub mod Shapes

@@ -1,0 +1,5 @@
+pub mod Calls
+pub mod Terms
+pub mod Tests
+pub mod Plans
+pub mod Listed

@@ -1,0 +1,9 @@
+//! Sequences of Neon calls for the rows of 128 bits that pack, extend and select lanes, take or give single values, and reduce a vector.
+#![tactic(auto)]
+
+mod calls;
+mod plans;
+mod terms;
+mod tests;
+
+pub use plans::{is_packing, plan};
