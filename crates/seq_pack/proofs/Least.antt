@@ -34,22 +34,24 @@ IsFirst n f p = (p ≤ n) × ((j : ℕ) → j ≤ n → f p ≤ f j) × ((j : �
 
 extend_first : (n : ℕ) (f : ℕ → ℕ) (p : ℕ) (b : Bool) → nat_lt (f (suc n)) (f p) ≡ b → IsFirst n f p → IsFirst (suc n) f (if b then suc n else p)
 extend_first n f p true e h =
-    let less : f (suc n) < f p = grind (arith, nat_tests, e) in
-    (omega arith,
-    (λ j l. elim (cases_lt j (suc n)) [
-      | inl b ↦ let k = h.1 j (omega (arith, b)) in omega (arith, k, less)
-      | inr b ↦ let s : suc n ≡ j = omega (arith, l, b) in subst (λ i. f (suc n) ≤ f i) s (omega arith)
-    ]),
-    λ j l. let k = h.1 j (omega (arith, l)) in omega (arith, k, less))
+    let less : f (suc n) < f p = grind (arith, nat_tests, e) in (
+      omega arith,
+      (λ j l. elim (cases_lt j (suc n)) [
+        | inl b ↦ let k = h.1 j (omega (arith, b)) in omega (arith, k, less)
+        | inr b ↦ let s : suc n ≡ j = omega (arith, l, b) in subst (λ i. f (suc n) ≤ f i) s (omega arith)
+      ]),
+      λ j l. let k = h.1 j (omega (arith, l)) in omega (arith, k, less),
+    )
 extend_first n f p false e h =
     let most : f p ≤ f (suc n) = grind (arith, nat_tests, e) in
-    let a = h.0 in
-    (omega (arith, a),
-    (λ j l. elim (cases_lt j (suc n)) [
-      | inl b ↦ h.1 j (omega (arith, b))
-      | inr b ↦ let s : suc n ≡ j = omega (arith, l, b) in subst (λ i. f p ≤ f i) s most
-    ]),
-    h.2)
+    let a = h.0 in (
+      omega (arith, a),
+      (λ j l. elim (cases_lt j (suc n)) [
+        | inl b ↦ h.1 j (omega (arith, b))
+        | inr b ↦ let s : suc n ≡ j = omega (arith, l, b) in subst (λ i. f p ≤ f i) s most
+      ]),
+      h.2,
+    )
 
 is_first : (n : ℕ) (f : ℕ → ℕ) → IsFirst n f (first_least n f)
 is_first zero f = (omega arith, (λ j l. let z : 0 ≡ j = omega (arith, l) in subst (λ i. f 0 ≤ f i) z (omega arith)), λ j l. absurd (omega (arith, l)))

@@ -5,5 +5,6 @@ pub mod Signs
 pub mod Tested
 pub mod Least
 pub mod Places
+pub mod Lanes
 pub mod Values
 pub mod Shapes

@@ -116,6 +116,18 @@ ones_whole imm = search (rules, arith) depth 20
 least_whole : (imm : ℕ) → Whole (form.One Xmm one.MinPosition) imm
 least_whole imm = search (rules, arith, numbers_register, ones_register, IsRegister-zeros) depth 24
 
+set_whole : (width : Width) (imm : ℕ) → Whole (form.Scalar (scalar.Set Xmm width)) imm
+set_whole Byte imm = search (rules, arith) depth 80
+set_whole Word imm = search (rules, arith) depth 60
+set_whole Dword imm = search (rules, arith) depth 40
+set_whole Qword imm = search (rules, arith) depth 30
+
+set_reversed_whole : (width : Width) (imm : ℕ) → Whole (form.Scalar (scalar.SetReversed Xmm width)) imm
+set_reversed_whole Byte imm = search (rules, arith) depth 80
+set_reversed_whole Word imm = search (rules, arith) depth 60
+set_reversed_whole Dword imm = search (rules, arith) depth 40
+set_reversed_whole Qword imm = search (rules, arith) depth 30
+
 pub plan_whole : (f : Form) (imm : ℕ) → InImmRange (range_of f) imm → Whole f imm
 plan_whole (form.Two Xmm two.PackWords) imm r = search (rules, arith) depth 20
 plan_whole (form.Two Xmm two.PackDwords) imm r = search (rules, arith) depth 20
@@ -132,6 +144,8 @@ plan_whole (form.Scalar (scalar.ToVector width)) imm r = low_lane_whole width im
 plan_whole (form.Scalar (scalar.FromVector width)) imm r = first_whole width imm
 plan_whole (form.Scalar (scalar.Extract Xmm width)) imm r = lane_whole width imm r
 plan_whole (form.Scalar (scalar.Insert Xmm width)) imm r = with_lane_whole width imm r
+plan_whole (form.Scalar (scalar.Set Xmm width)) imm r = set_whole width imm
+plan_whole (form.Scalar (scalar.SetReversed Xmm width)) imm r = set_reversed_whole width imm
 plan_whole (form.Scalar (scalar.ByteSigns Xmm)) imm r = search (rules, arith, places_register) depth 24
 plan_whole (form.Scalar (scalar.Tested Xmm test)) imm r = tested_whole test imm
 plan_whole (form.Scalar scalar.TestedOnes) imm r = ones_whole imm

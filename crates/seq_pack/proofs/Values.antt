@@ -39,6 +39,7 @@ use Rattle.neon_elements.specs.Vectors.{duplicated, each2, reduced, zipped, extr
 use Rattle.neon_elements.specs.Laws.{each2_is}
 use Rattle.intel_forms.specs.declared.scalars.Test.{Test}
 use Rattle.intel_forms.specs.declared.scalars.Test.TheVariants.{Zero, Carry, Neither}
+use Rattle.seq_pack.proofs.Lanes.{sets_of}
 use Rattle.seq_pack.proofs.Signs.{marked, signs_summed, small_signs}
 use Rattle.seq_pack.proofs.Least.{all_ones, least_byte_below}
 use Rattle.seq_pack.proofs.Places.{byte_reduced, equal_ones, least_registered}
@@ -271,6 +272,20 @@ over_integer_imm s result t v h = go
 abbrev Due : Form → ℕ → Type 0
 Due f imm = When (Gives (signature_of f) (λ args. value_of f args imm)) (planned f) imm
 
+set_due : (width : Width) (imm : ℕ) → Due (form.Scalar (scalar.Set Xmm width)) imm
+unfolding row.each_lane
+set_due Byte imm = λ args h. sets_of false Byte args h
+set_due Word imm = λ args h. sets_of false Word args h
+set_due Dword imm = λ args h. sets_of false Dword args h
+set_due Qword imm = λ args h. sets_of false Qword args h
+
+set_reversed_due : (width : Width) (imm : ℕ) → Due (form.Scalar (scalar.SetReversed Xmm width)) imm
+unfolding row.each_lane_reversed
+set_reversed_due Byte imm = λ args h. sets_of true Byte args h
+set_reversed_due Word imm = λ args h. sets_of true Word args h
+set_reversed_due Dword imm = λ args h. sets_of true Dword args h
+set_reversed_due Qword imm = λ args h. sets_of true Qword args h
+
 pub plan_due : (f : Form) (imm : ℕ) → Due f imm
 plan_due (form.Two Xmm two.PackWords) imm = over_two (over (vector ∷ vector ∷ []) (term.packed S16 VqmovnS16 VcombineS8 S8)) (kind.Reg 16) (two_value Xmm (pack 1)) (λ a b h k. as_register (pack_words a b h))
 plan_due (form.Two Xmm two.PackDwords) imm = over_two (over (vector ∷ vector ∷ []) (term.packed S32 VqmovnS32 VcombineS16 S16)) (kind.Reg 16) (two_value Xmm (pack 2)) (λ a b h k. as_register (pack_dwords a b h))
@@ -288,6 +303,8 @@ plan_due (form.Scalar (scalar.FromVector width)) imm = over_one (sequence_of (sh
 plan_due (form.Scalar (scalar.Extract Xmm width)) imm = over_one_imm (sequence_of (shape.Lane width) imm) (kind.Scalar (result_type width)) (λ args. row.extract_value Xmm width args imm) (lane_gives width imm)
 plan_due (form.Scalar (scalar.Insert Xmm width)) imm =
     over_integer_imm (sequence_of (shape.WithLane width) imm) (kind.Reg 16) (result_type width) (λ args. row.insert_value Xmm width args imm) (λ a x h. with_lane_gives width imm x a h)
+plan_due (form.Scalar (scalar.Set Xmm width)) imm = set_due width imm
+plan_due (form.Scalar (scalar.SetReversed Xmm width)) imm = set_reversed_due width imm
 plan_due (form.Scalar (scalar.ByteSigns Xmm)) imm = over_one (sequence_of shape.ByteSigns imm) (kind.Scalar int.Int) (row.signs_value Xmm) (signs_give imm)
 plan_due (form.Scalar (scalar.Tested Xmm test)) imm = over_two (sequence_of (shape.Tested test) imm) (kind.Scalar int.Int) (row.tested_value Xmm test) (tested_gives test imm)
 plan_due (form.Scalar scalar.TestedOnes) imm = over_one (sequence_of shape.TestedOnes imm) (kind.Scalar int.Int) row.ones_value (ones_give imm)

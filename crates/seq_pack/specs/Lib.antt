@@ -1,5 +1,6 @@
 pub mod Calls
 pub mod Terms
 pub mod Tests
+pub mod Sets
 pub mod Plans
 pub mod Listed

@@ -13,6 +13,7 @@ use Rattle.intel_forms.specs.declared.scalars.Scalar.{Scalar}
 use Rattle.intel_forms.specs.declared.scalars.Scalar.TheVariants as scalar
 use Rattle.intel_forms.specs.declared.forms.Form.{Form}
 use Rattle.intel_forms.specs.declared.forms.Form.TheVariants as form
+use Rattle.intel_forms.specs.Scalars.{lanes_of}
 use Rattle.seq_core.specs.Terms.{Term, Sequence}
 use Rattle.seq_core.specs.Formed.{vector, type_of}
 
@@ -52,6 +53,8 @@ listed _ = None
 -- of rows that are scalar by nature; of others 24
 abbrev pub scalar_ceiling : Scalar → ℕ
 scalar_ceiling (scalar.SetZero size) = 0
+scalar_ceiling (scalar.Set size width) = lanes_of size width
+scalar_ceiling (scalar.SetReversed size width) = lanes_of size width
 scalar_ceiling (scalar.ByteSigns size) = 8
 scalar_ceiling (scalar.Tested size test) = 4
 scalar_ceiling scalar.TestedOnes = 4

@@ -1,5 +1,5 @@
 -- The sequence of each row, and the rows that have one here.
-use Rattle.std.specs.Prelude.{ℕ, [], ◌∷◌, Bool, Option, Some, None, option_map, is_some}
+use Rattle.std.specs.Prelude.{ℕ, ◌/◌, replicate, [], ◌∷◌, Bool, true, false, Option, Some, None, option_map, is_some}
 use Rattle.lane_core.specs.declared.vector.NeonLane.TheVariants.{U8, U16, S8, S16, S32}
 use Rattle.c_tree.specs.declared.types.CType.{CType}
 use Rattle.intel_lanes.specs.declared.lanes.Width.TheVariants.{Word, Dword}
@@ -8,6 +8,7 @@ use Rattle.intel_lanes.specs.declared.blocks.Two.{Two}
 use Rattle.intel_lanes.specs.declared.blocks.Two.TheVariants as two
 use Rattle.intel_lanes.specs.declared.blocks.TwoImm.{TwoImm}
 use Rattle.intel_lanes.specs.declared.blocks.TwoImm.TheVariants as two_imm
+use Rattle.intel_lanes.specs.Lanes.{bytes_of}
 use Rattle.intel_forms.specs.declared.sizes.Size.TheVariants.{Xmm}
 use Rattle.intel_forms.specs.declared.scalars.Scalar.{Scalar}
 use Rattle.intel_forms.specs.declared.scalars.Scalar.TheVariants as scalar
@@ -24,6 +25,7 @@ use Rattle.seq_pack.specs.declared.plans.Shape.{Shape}
 use Rattle.seq_pack.specs.declared.plans.Shape.TheVariants as shape
 use Rattle.seq_pack.specs.Calls.{over, over_steps}
 use Rattle.seq_pack.specs.Terms.{packed, extended, shuffled, blended_bytes, blended, zeros, all_lanes, with_lane, lane_at}
+use Rattle.seq_pack.specs.Sets.{each_lane}
 use Rattle.seq_pack.specs.Tests.{marks, marks_summed, tested, tested_ones, least, least_place, least_and_place}
 
 abbrev pub sequence_of : Shape → ℕ → Sequence
@@ -38,6 +40,7 @@ sequence_of (shape.LowLane width) imm = over (CType.Int (lane_type width) ∷ []
 sequence_of (shape.First width) imm = over (vector ∷ []) (lane_at width 0)
 sequence_of (shape.Lane width) imm = over (vector ∷ []) (lane_at width imm)
 sequence_of (shape.WithLane width) imm = over (vector ∷ CType.Int (result_type width) ∷ []) (with_lane width (Param 1) (Param 0) imm)
+sequence_of (shape.EachLane reversed width) imm = over (replicate (16 / bytes_of width) (CType.Int (lane_type width))) (each_lane reversed width)
 sequence_of shape.ByteSigns imm = over_steps (vector ∷ []) (marks ∷ []) marks_summed
 sequence_of (shape.Tested test) imm = over (vector ∷ vector ∷ []) (tested test)
 sequence_of shape.TestedOnes imm = over (vector ∷ []) tested_ones
@@ -63,6 +66,8 @@ planned_scalar (scalar.ToVector width) = Some (shape.LowLane width)
 planned_scalar (scalar.FromVector width) = Some (shape.First width)
 planned_scalar (scalar.Extract Xmm width) = Some (shape.Lane width)
 planned_scalar (scalar.Insert Xmm width) = Some (shape.WithLane width)
+planned_scalar (scalar.Set Xmm width) = Some (shape.EachLane false width)
+planned_scalar (scalar.SetReversed Xmm width) = Some (shape.EachLane true width)
 planned_scalar (scalar.ByteSigns Xmm) = Some shape.ByteSigns
 planned_scalar (scalar.Tested Xmm test) = Some (shape.Tested test)
 planned_scalar scalar.TestedOnes = Some shape.TestedOnes

@@ -43,7 +43,13 @@ pub fn worked_two(alloc: Global, row: LaneOp, x: Term, y: Term) -> Result<Term, 
 }
 
 /// The call of a computing row of three operands.
-pub fn worked_three(alloc: Global, row: LaneOp, x: Term, y: Term, z: Term) -> Result<Term, AllocError>
+pub fn worked_three(
+    alloc: Global,
+    row: LaneOp,
+    x: Term,
+    y: Term,
+    z: Term,
+) -> Result<Term, AllocError>
     ensures { IfOk result (λ t. view t ≡ worked_three row (view x) (view y) (view z)) }
 {
     build::call_three(alloc, computing(row), x, y, z)

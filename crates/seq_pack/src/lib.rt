@@ -3,6 +3,7 @@
 
 mod calls;
 mod plans;
+mod sets;
 mod terms;
 mod tests;
 

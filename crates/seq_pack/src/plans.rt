@@ -15,6 +15,7 @@ ghost use Rattle.seq_pack.specs.Plans.{sequence_of, planned_two, planned_blend, 
 ghost use Rattle.seq_pack.specs.Listed.{IsTyped, ceiling, listed};
 
 use crate::calls::{over_none, over_one, over_three, over_two};
+use crate::sets::{each_lane, last_lane};
 use crate::terms::{
     all_lanes, blended, blended_bytes, extended, lane_at, packed, shuffled, with_lane,
 };
@@ -60,6 +61,8 @@ enum Shape {
     Lane(Width),
     /// The immediate's lane replaced by an integer.
     WithLane(Width),
+    /// An integer for each lane, the lowest lane's first where the truth value is true, else last.
+    EachLane(bool, Width),
     /// The top bits of the bytes.
     ByteSigns,
     /// A test of both operands.
@@ -100,6 +103,15 @@ fn low_lane(alloc: Global, width: Width) -> Result<Seq, AllocError>
     over_one(alloc, lane_type(width), t)
 }
 
+/// An integer for each lane.
+fn every_lane(alloc: Global, reversed: bool, width: Width) -> Result<Seq, AllocError>
+    ensures { IfOk result (λ s. view_seq s ≡ sequence_of (Shape.EachLane reversed width) 0) }
+{
+    let mut seq = over_none(alloc, each_lane(alloc, reversed, width)?)?;
+    seq.params = vec![in alloc; lane_type(width); last_lane(width) as usize + 1]?;
+    Ok(seq)
+}
+
 /// The top bits of the bytes.
 fn byte_signs(alloc: Global) -> Result<Seq, AllocError>
     ensures { IfOk result (λ s. view_seq s ≡ sequence_of Shape.ByteSigns 0) }
@@ -124,7 +136,12 @@ fn sequence(alloc: Global, shape: Shape, imm: u16) -> Result<Seq, AllocError>
 {
     match shape {
         Shape::Packed(from, narrow, join, to) => {
-            over_two(alloc, CARRIER, CARRIER, packed(alloc, from, narrow, join, to)?)
+            over_two(
+                alloc,
+                CARRIER,
+                CARRIER,
+                packed(alloc, from, narrow, join, to)?,
+            )
         }
         Shape::Extended(signs, widths) => over_one(alloc, CARRIER, extended(alloc, signs, widths)?),
         Shape::Shuffled => over_two(alloc, CARRIER, CARRIER, shuffled(alloc)?),
@@ -141,6 +158,7 @@ fn sequence(alloc: Global, shape: Shape, imm: u16) -> Result<Seq, AllocError>
             let t = with_lane(alloc, width, Term::Param(1), Term::Param(0), imm)?;
             over_two(alloc, CARRIER, result_type(width), t)
         }
+        Shape::EachLane(reversed, width) => every_lane(alloc, reversed, width),
         Shape::ByteSigns => byte_signs(alloc),
         Shape::Tested(test) => over_two(alloc, CARRIER, CARRIER, tested(alloc, test)?),
         Shape::TestedOnes => over_one(alloc, CARRIER, tested_ones(alloc)?),
@@ -181,6 +199,8 @@ fn planned_scalar(row: Scalar) -> Option<Shape>
         Scalar::FromVector(width) => Some(Shape::First(width)),
         Scalar::Extract(Size::Xmm, width) => Some(Shape::Lane(width)),
         Scalar::Insert(Size::Xmm, width) => Some(Shape::WithLane(width)),
+        Scalar::Set(Size::Xmm, width) => Some(Shape::EachLane(false, width)),
+        Scalar::SetReversed(Size::Xmm, width) => Some(Shape::EachLane(true, width)),
         Scalar::ByteSigns(Size::Xmm) => Some(Shape::ByteSigns),
         Scalar::Tested(Size::Xmm, test) => Some(Shape::Tested(test)),
         Scalar::TestedOnes => Some(Shape::TestedOnes),

@@ -6,7 +6,7 @@ ghost use Rattle.seq_core.specs.View.{view};
 ghost use Rattle.seq_pack.specs.Terms as term;
 ghost use Rattle.seq_pack.specs.Terms.{packed, elements, widened, words, dwords, qwords, extended, shuffled, blended_bytes, mask, by_mask, halves, blended, unsigned_type, duplicating, setting, all_lanes, with_lane, lane_at};
 
-use crate::calls::{back, into, moved, moved_two, worked, worked_two, worked_three};
+use crate::calls::{back, into, moved, moved_two, worked, worked_three, worked_two};
 use intel_forms::Extension;
 use intel_lanes::lanes::Width;
 use lane_core::number::IntType;
@@ -27,9 +27,7 @@ use neon_move::places::Places::{
     self, VdupqNU8, VdupqNU16, VdupqNU32, VdupqNU64, VgetqLaneS32, VgetqLaneS64, VgetqLaneU8,
     VgetqLaneU16, VsetqLaneU8, VsetqLaneU16, VsetqLaneU32, VsetqLaneU64,
 };
-use neon_move::widened::Widened::{
-    self, VmovlS8, VmovlS16, VmovlS32, VmovlU8, VmovlU16, VmovlU32,
-};
+use neon_move::widened::Widened::{self, VmovlS8, VmovlS16, VmovlS32, VmovlU8, VmovlU16, VmovlU32};
 use seq_core::{Term, build};
 use std::alloc::{AllocError, Global};
 
@@ -47,11 +45,15 @@ pub fn packed(
     let low = moved(alloc, MoveOp::Narrowed(narrow), low, 0)?;
     let high = into(alloc, from, Term::Param(1))?;
     let high = moved(alloc, MoveOp::Narrowed(narrow), high, 0)?;
-    back(alloc, to, moved_two(alloc, MoveOp::Halves(join), low, high, 0)?)
+    back(
+        alloc,
+        to,
+        moved_two(alloc, MoveOp::Halves(join), low, high, 0)?,
+    )
 }
 
 /// The elements of a lane, with signs where the truth value is true.
-fn elements(signs: bool, width: Width) -> NeonLane
+pub fn elements(signs: bool, width: Width) -> NeonLane
     ensures { result ≡ elements signs width }
 {
     match (signs, width) {
@@ -119,26 +121,46 @@ pub fn extended(alloc: Global, signs: bool, widths: Extension) -> Result<Term, A
         Extension::ByteDword => {
             let x = into(alloc, elements(signs, Width::Byte), Term::Param(0))?;
             let x = words(alloc, signs, x)?;
-            back(alloc, elements(signs, Width::Dword), dwords(alloc, signs, x)?)
+            back(
+                alloc,
+                elements(signs, Width::Dword),
+                dwords(alloc, signs, x)?,
+            )
         }
         Extension::ByteQword => {
             let x = into(alloc, elements(signs, Width::Byte), Term::Param(0))?;
             let x = words(alloc, signs, x)?;
             let x = dwords(alloc, signs, x)?;
-            back(alloc, elements(signs, Width::Qword), qwords(alloc, signs, x)?)
+            back(
+                alloc,
+                elements(signs, Width::Qword),
+                qwords(alloc, signs, x)?,
+            )
         }
         Extension::WordDword => {
             let x = into(alloc, elements(signs, Width::Word), Term::Param(0))?;
-            back(alloc, elements(signs, Width::Dword), dwords(alloc, signs, x)?)
+            back(
+                alloc,
+                elements(signs, Width::Dword),
+                dwords(alloc, signs, x)?,
+            )
         }
         Extension::WordQword => {
             let x = into(alloc, elements(signs, Width::Word), Term::Param(0))?;
             let x = dwords(alloc, signs, x)?;
-            back(alloc, elements(signs, Width::Qword), qwords(alloc, signs, x)?)
+            back(
+                alloc,
+                elements(signs, Width::Qword),
+                qwords(alloc, signs, x)?,
+            )
         }
         Extension::DwordQword => {
             let x = into(alloc, elements(signs, Width::Dword), Term::Param(0))?;
-            back(alloc, elements(signs, Width::Qword), qwords(alloc, signs, x)?)
+            back(
+                alloc,
+                elements(signs, Width::Qword),
+                qwords(alloc, signs, x)?,
+            )
         }
     }
 }
@@ -265,7 +287,7 @@ pub fn blended(alloc: Global, width: Width, imm: u16) -> Result<Term, AllocError
 }
 
 /// The type of an unsigned lane.
-fn unsigned_type(width: Width) -> IntType
+pub fn unsigned_type(width: Width) -> IntType
     ensures { result ≡ unsigned_type width }
 {
     match width {
@@ -277,7 +299,7 @@ fn unsigned_type(width: Width) -> IntType
 }
 
 /// The row that puts an integer into all lanes.
-fn duplicating(width: Width) -> Places
+pub fn duplicating(width: Width) -> Places
     ensures { result ≡ duplicating width }
 {
     match width {
@@ -289,7 +311,7 @@ fn duplicating(width: Width) -> Places
 }
 
 /// The row that puts an integer into one lane.
-fn setting(width: Width) -> Places
+pub fn setting(width: Width) -> Places
     ensures { result ≡ setting width }
 {
     match width {

@@ -99,7 +99,12 @@ pub fn tested_ones(alloc: Global) -> Result<Term, AllocError>
 {
     let least = worked(alloc, LaneOp::Extremes(VminvqU8), Term::Param(0), 0)?;
     let least = build::convert(alloc, IntType::Int, least)?;
-    build::scalar(alloc, BinOp::Eq, least, Term::Int(from_bits(IntType::Int, 255)))
+    build::scalar(
+        alloc,
+        BinOp::Eq,
+        least,
+        Term::Int(from_bits(IntType::Int, 255)),
+    )
 }
 
 /// The least word.
