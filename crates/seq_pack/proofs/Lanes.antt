@@ -1,10 +1,10 @@
 -- A vector of an integer for each lane.
-use Rattle.std.proofs.Common.{◌≡◌, ℕ, zero, suc, ◌+◌, ◌-◌, ◌*◌, ◌/◌, ◌%◌, ◌^◌, ◌<◌, ◌≤◌, List, [], ◌∷◌, map, length, get_or, Bool, true, false, Option, Some, None, option_map, refl, ap, sym, ◌∙◌, subst, arith, rules, inl, inr, pos, ◌⊎◌}
+use Rattle.std.proofs.Common.{◌≡◌, ℕ, zero, suc, ◌+◌, ◌*◌, ◌/◌, ◌%◌, ◌^◌, ◌<◌, ◌≤◌, List, [], ◌∷◌, map, length, get_or, Bool, true, false, Option, Some, option_map, refl, ap, sym, ◌∙◌, subst, arith, rules, inl, inr, pos, ◌⊎◌}
 use Rattle.std.specs.Prelude.{nat_le, replicate, slice_get, if◌then◌else◌}
 use Rattle.std.specs.Option.{option_and_then}
 use Rattle.std.proofs.lemmas.Bool.{cases_lt}
-use Rattle.std.proofs.Math.Nat.{mod-eq_of_lt, mod-mod}
-use Rattle.lane_core.specs.Register.{Bytes, IsRegister, IsWidth, lane, build}
+use Rattle.std.proofs.Math.Nat.{mod-eq_of_lt}
+use Rattle.lane_core.specs.Register.{IsRegister, IsWidth, lane, build}
 use Rattle.lane_core.specs.Kernels.{put_of}
 use Rattle.lane_core.proofs.Lanes.{lane-build, build_of_lanes, build_same}
 use Rattle.lane_core.proofs.Puts.{lane-put_same, lane-put_other}
@@ -13,7 +13,6 @@ use Rattle.lane_core.specs.declared.number.IntType.{IntType}
 use Rattle.lane_core.specs.declared.number.IntType.TheVariants as int
 use Rattle.lane_core.specs.declared.table.Arg.{Arg}
 use Rattle.lane_core.specs.declared.table.Arg.TheVariants as arg
-use Rattle.lane_core.specs.declared.table.ParamKind.{ParamKind}
 use Rattle.lane_core.specs.declared.table.ParamKind.TheVariants as kind
 use Rattle.lane_core.specs.Table.{FitsKinds}
 use Rattle.scalar_core.specs.Numbers.{num_of}

@@ -14,7 +14,7 @@ use Rattle.intel_lanes.specs.declared.lanes.Width.{Width}
 use Rattle.intel_lanes.specs.declared.lanes.Width.TheVariants.{Byte, Word, Dword}
 use Rattle.intel_lanes.specs.Lanes.{saturate, saturate_unsigned}
 use Rattle.intel_lanes.specs.Blocks.{pack, pack_unsigned, extended}
-use Rattle.intel_lanes.specs.Laws.{byte, word, dword, xmm}
+use Rattle.intel_lanes.specs.Laws.{word, dword, xmm}
 use Rattle.intel_forms.specs.declared.forms.Extension.{Extension}
 use Rattle.intel_forms.specs.declared.forms.Extension.TheVariants.{ByteWord, ByteDword, ByteQword, WordDword, WordQword, DwordQword}
 use Rattle.intel_forms.specs.Forms.{narrow_of, wide_of}

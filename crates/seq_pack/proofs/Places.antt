@@ -1,16 +1,16 @@
 -- The least word and its place as a register; whether all bits are 1, as C has it.
-use Rattle.std.proofs.Common.{◌≡◌, ℕ, zero, suc, ◌+◌, ◌-◌, ◌*◌, ◌/◌, ◌%◌, ◌^◌, ◌<◌, ◌≤◌, List, Bool, true, false, ◌&&◌, Some, refl, ap, sym, ◌∙◌, subst, arith, rules, pos}
-use Rattle.std.specs.Prelude.{◌==◌, bit_and, bit_or, int_lt, if◌then◌else◌}
+use Rattle.std.proofs.Common.{◌≡◌, ℕ, zero, suc, ◌%◌, ◌^◌, ◌<◌, ◌≤◌, List, Bool, true, false, Some, refl, ap, sym, ◌∙◌, subst, arith, pos}
+use Rattle.std.specs.Prelude.{◌==◌, int_lt, if◌then◌else◌}
 use Rattle.std.specs.Ordering.{int_eq}
 use Rattle.std.proofs.lemmas.Bool.Decides.{nat_tests}
 use Rattle.std.proofs.lemmas.Int.{ints}
-use Rattle.std.proofs.Math.Nat.{mod-eq_of_lt, mod-mod}
+use Rattle.std.proofs.Math.Nat.{mod-eq_of_lt}
 use Rattle.lane_core.specs.declared.number.IntType.TheVariants as int
 use Rattle.lane_core.specs.declared.number.BinOp.TheVariants.{Eq}
 use Rattle.lane_core.specs.declared.number.Num.{Num}
 use Rattle.lane_core.specs.Register as register
 use Rattle.lane_core.specs.Register.{IsRegister, lane, build}
-use Rattle.lane_core.specs.Kernels.{map2_of, put_of}
+use Rattle.lane_core.specs.Kernels.{put_of}
 use Rattle.lane_core.proofs.Lanes.{lane-build, lane_below}
 use Rattle.lane_core.proofs.Laws.{lane-map2, IsRegister-build}
 use Rattle.lane_core.specs.declared.vector.NeonLane.TheVariants.{U8, U16}
@@ -20,8 +20,7 @@ use Rattle.scalar_core.specs.NumberLaws.{num_of_in_range}
 use Rattle.scalar_core.specs.Ranks.{promoted, common_of}
 use Rattle.scalar_core.specs.Operators.{binary_of, operate, truth}
 use Rattle.intel_lanes.specs.Blocks.{first_least, min_position}
-use Rattle.intel_lanes.specs.Laws.{byte, word, xmm}
-use Rattle.intel_forms.specs.Scalars.{all_below}
+use Rattle.intel_lanes.specs.Laws.{word, xmm}
 use Rattle.neon_elements.specs.declared.elements.Binary.TheVariants.{Min}
 use Rattle.neon_elements.specs.declared.elements.Compare.TheVariants.{Equal}
 use Rattle.neon_elements.specs.declared.vectors.Across.TheVariants.{Least}
@@ -30,7 +29,7 @@ use Rattle.neon_elements.specs.Vectors.{reduced, compared, selected, duplicated}
 use Rattle.neon_elements.specs.Laws.{selected_is}
 use Rattle.seq_pack.specs.Terms.{zeros}
 use Rattle.seq_pack.specs.Tests.{numbers, ones}
-use Rattle.seq_pack.proofs.Selections.{told, chosen, all_bits_2}
+use Rattle.seq_pack.proofs.Selections.{chosen, all_bits_2}
 use Rattle.seq_pack.proofs.Numbers.{byte_in_range, word_in_range, int_in_range, bits_small, converted_small}
 use Rattle.seq_pack.proofs.Least.{least_is, place_or, first_place, first_within, least_byte_below}
 

@@ -1,12 +1,12 @@
 -- Bytes and lanes that are chosen.
 use Rattle.std.proofs.Common.{◌≡◌, ℕ, zero, suc, ◌+◌, ◌-◌, ◌*◌, ◌/◌, ◌%◌, ◌^◌, ◌<◌, ◌≤◌, List, ◌++◌, take, drop, length-take, length-drop, Bool, true, false, not, ◌&&◌, refl, ap, sym, ◌∙◌, subst, arith, rules, inl, inr}
-use Rattle.std.specs.Prelude.{nat_lt, nat_le, ◌==◌, min, bit_and, bit_or, if◌then◌else◌}
+use Rattle.std.specs.Prelude.{nat_lt, nat_le, ◌==◌, bit_and, bit_or, if◌then◌else◌}
 use Rattle.std.specs.Int.{int_shr}
 use Rattle.std.specs.Int.Bits.{and_comm, or_comm}
 use Rattle.std.proofs.lemmas.Grind.{and_numeral}
-use Rattle.std.proofs.lemmas.Bool.{cases_lt, ltb-true}
+use Rattle.std.proofs.lemmas.Bool.{cases_lt}
 use Rattle.std.proofs.lemmas.Int.{ints}
-use Rattle.std.proofs.Math.Nat.{mod-eq_of_lt, mod-mod}
+use Rattle.std.proofs.Math.Nat.{mod-eq_of_lt}
 use Rattle.lane_core.specs.Register.{IsRegister, IsWidth, lane, build, signed, wrapped}
 use Rattle.lane_core.specs.Kernels.{map1_of, map2_of}
 use Rattle.lane_core.proofs.Lists.{Bytes-take, Bytes-drop}
@@ -14,7 +14,7 @@ use Rattle.lane_core.proofs.Lanes.{lane-build, build_same, build-lane, lane_belo
 use Rattle.lane_core.proofs.Laws.{build-append, lane-map1, lane-map2, IsRegister-build}
 use Rattle.lane_core.specs.declared.vector.NeonLane.TheVariants.{U8, U16, U32, S8}
 use Rattle.intel_lanes.specs.Blocks.{shuffle_bytes, blend_bytes, blend}
-use Rattle.intel_lanes.specs.Laws.{byte, word, dword, xmm}
+use Rattle.intel_lanes.specs.Laws.{byte, xmm}
 use Rattle.intel_forms.specs.Scalars.{all_below}
 use Rattle.neon_elements.specs.declared.elements.Binary.TheVariants.{And}
 use Rattle.neon_elements.specs.Vectors.{combined, half, each2, selected, shifted_right, looked_up}

@@ -1,7 +1,6 @@
 -- Each sequence is well formed, takes and gives what its row does, and calls the rows that are due.
-use Rattle.std.proofs.Common.{◌≡◌, ℕ, ◌+◌, ◌≤◌, ◌^◌, List, [], ◌∷◌, length, map, Bool, true, false, Option, Some, None, refl, arith, rules}
+use Rattle.std.proofs.Common.{◌≡◌, ℕ, ◌+◌, ◌≤◌, ◌^◌, List, [], ◌∷◌, length, map, Bool, true, false, Option, Some, None, arith, rules}
 use Rattle.std.specs.Prelude.{◌==◌, if◌then◌else◌}
-use Rattle.lane_core.specs.declared.number.IntType.TheVariants as int
 use Rattle.lane_core.specs.Table.{InImmRange}
 use Rattle.lane_core.proofs.Laws.{IsRegister-zeros}
 use Rattle.intel_lanes.specs.declared.lanes.Width.{Width}
@@ -24,10 +23,9 @@ use Rattle.neon_table.specs.Rows.{name_of}
 use Rattle.seq_core.specs.Terms.{Sequence, Param}
 use Rattle.seq_core.specs.Formed.{WellFormed, vector}
 use Rattle.seq_core.specs.Called.{rows_called, plain}
-use Rattle.seq_pack.specs.declared.plans.Shape.TheVariants as shape
 use Rattle.seq_pack.specs.Calls.{over}
 use Rattle.seq_pack.specs.Terms.{halves, by_mask}
-use Rattle.seq_pack.specs.Plans.{sequence_of, planned}
+use Rattle.seq_pack.specs.Plans.{planned}
 use Rattle.seq_pack.specs.Listed.{IsTyped, ceiling, listed}
 use Rattle.seq_pack.proofs.Selections.{kept_register, mask_register}
 use Rattle.seq_pack.proofs.Signs.{places_register}

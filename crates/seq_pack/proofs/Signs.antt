@@ -1,27 +1,25 @@
 -- The top bits of bytes as one integer.
-use Rattle.std.proofs.Common.{◌≡◌, ℕ, zero, suc, ◌+◌, ◌-◌, ◌*◌, ◌/◌, ◌%◌, ◌^◌, ◌<◌, ◌≤◌, List, ◌++◌, length, Bool, true, false, refl, ap, sym, ◌∙◌, subst, arith, rules, inl, inr, pos, ◌⊎◌}
+use Rattle.std.proofs.Common.{◌≡◌, ℕ, zero, suc, ◌+◌, ◌-◌, ◌*◌, ◌/◌, ◌%◌, ◌^◌, ◌<◌, ◌≤◌, List, ◌++◌, true, false, refl, ap, ◌∙◌, subst, arith, rules, inl, inr, pos, ◌⊎◌}
 use Rattle.std.specs.Prelude.{nat_lt, ◌==◌, bit_and, if◌then◌else◌}
 use Rattle.std.specs.Int.{int_shr}
 use Rattle.std.specs.Int.Bits.{and_comm}
 use Rattle.std.proofs.lemmas.Bool.{cases_lt}
-use Rattle.std.proofs.lemmas.Int.{ints}
 use Rattle.std.proofs.lemmas.Grind.{and_numeral}
-use Rattle.std.proofs.Math.Nat.{mod-eq_of_lt, mod-mod}
+use Rattle.std.proofs.Math.Nat.{mod-eq_of_lt}
 use Rattle.lane_core.specs.Register.{IsRegister, lane, build, signed, wrapped}
 use Rattle.lane_core.specs.Kernels.{map1_of, map2_of}
 use Rattle.lane_core.proofs.Lanes.{lane-build, lane_below, lane-append_left}
 use Rattle.lane_core.proofs.Laws.{lane-map1, lane-map2, lane_split, IsRegister-build}
 use Rattle.lane_core.proofs.Signed.{signed_low}
-use Rattle.lane_core.specs.declared.vector.NeonLane.TheVariants.{U8, U16, S8}
+use Rattle.lane_core.specs.declared.vector.NeonLane.TheVariants.{U8, S8}
 use Rattle.intel_lanes.specs.Blocks.{sum_below}
 use Rattle.intel_lanes.specs.Laws.{byte, xmm}
 use Rattle.intel_forms.specs.Scalars.{all_below, top_bits, byte_signs}
 use Rattle.neon_elements.specs.declared.elements.Binary.TheVariants.{And}
-use Rattle.neon_elements.specs.declared.vectors.Across.TheVariants.{Sum}
 use Rattle.neon_elements.specs.Elements.{sum_of}
-use Rattle.neon_elements.specs.Vectors.{each2, shifted_right, zipped, extracted, reduced}
+use Rattle.neon_elements.specs.Vectors.{each2, shifted_right, zipped, extracted}
 use Rattle.seq_pack.specs.Tests.{places}
-use Rattle.seq_pack.proofs.Selections.{told, sign_told, and_none}
+use Rattle.seq_pack.proofs.Selections.{told, sign_told}
 
 none : (p : ℕ) → 0 ≡ 0 * p
 none p = omega arith

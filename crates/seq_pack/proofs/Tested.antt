@@ -1,28 +1,26 @@
 -- Tests of whole vectors.
-use Rattle.std.proofs.Common.{◌≡◌, ℕ, zero, suc, ◌+◌, ◌-◌, ◌*◌, ◌/◌, ◌%◌, ◌^◌, ◌<◌, ◌≤◌, max, List, Bool, true, false, ◌&&◌, not, Some, refl, ap, sym, ◌∙◌, subst, arith, rules, pos}
+use Rattle.std.proofs.Common.{◌≡◌, ℕ, zero, suc, ◌+◌, ◌-◌, ◌*◌, ◌^◌, ◌<◌, max, List, Bool, true, false, ◌&&◌, not, Some, refl, ap, sym, ◌∙◌, subst, arith, rules, pos}
 use Rattle.std.specs.Prelude.{◌==◌, int_lt, bit_and, if◌then◌else◌}
 use Rattle.std.specs.Ordering.{int_eq}
 use Rattle.std.specs.Int.Bits.{and_comm}
 use Rattle.std.proofs.lemmas.Bool.Decides.{nat_tests}
 use Rattle.std.proofs.lemmas.Int.{ints}
-use Rattle.std.proofs.lemmas.Nat.{and_le_l, and_le_r}
-use Rattle.std.proofs.Math.Nat.{mod-eq_of_lt, mod-mod}
+use Rattle.std.proofs.lemmas.Nat.{and_le_l}
+use Rattle.std.proofs.Math.Nat.{mod-eq_of_lt}
 use Rattle.lane_core.specs.declared.number.IntType.TheVariants as int
 use Rattle.lane_core.specs.declared.number.BinOp.TheVariants.{Eq, Ne, BitAnd}
 use Rattle.lane_core.specs.declared.number.Num.{Num}
 use Rattle.lane_core.specs.IntRange.{InRange}
 use Rattle.lane_core.specs.Register as register
 use Rattle.lane_core.specs.Register.{IsRegister, lane, build}
-use Rattle.lane_core.specs.Kernels.{map2_of}
 use Rattle.lane_core.proofs.Lanes.{lane_below}
-use Rattle.lane_core.proofs.Laws.{lane-map2, lane_split, IsRegister-build}
+use Rattle.lane_core.proofs.Laws.{lane-map2, lane_split}
 use Rattle.lane_core.specs.declared.vector.NeonLane.TheVariants.{U32, U64}
 use Rattle.scalar_core.specs.TwosComplement.{bits_of, value_of_bits, wrapped}
 use Rattle.scalar_core.specs.Numbers.{num_of, converted}
 use Rattle.scalar_core.specs.NumberLaws.{num_of_in_range}
 use Rattle.scalar_core.specs.Ranks.{promoted, common_of}
 use Rattle.scalar_core.specs.Operators.{binary_of, operate, truth}
-use Rattle.intel_lanes.specs.Laws.{qword, xmm}
 use Rattle.intel_forms.specs.Scalars.{all_below, is_disjoint, is_within, bit}
 use Rattle.neon_elements.specs.declared.elements.Binary.TheVariants.{And, Bic, Max}
 use Rattle.neon_elements.specs.declared.vectors.Across.TheVariants.{Greatest}

@@ -1,7 +1,7 @@
 -- Each sequence gives its row's value.
-use Rattle.std.proofs.Common.{◌≡◌, ℕ, zero, suc, ◌+◌, ◌-◌, ◌*◌, ◌/◌, ◌%◌, ◌^◌, ◌<◌, List, [], ◌∷◌, ◌++◌, take, drop, Bool, not, ◌&&◌, true, false, Option, Some, None, option_map, refl, ap, sym, subst, ◌∙◌, arith, rules}
-use Rattle.std.specs.Prelude.{◌==◌, replicate, if◌then◌else◌, IfOk, Result, Ok, Err}
-use Rattle.lane_core.specs.Register.{IsRegister, lane, build, digits, wrapped}
+use Rattle.std.proofs.Common.{◌≡◌, ℕ, ◌+◌, ◌*◌, ◌%◌, ◌^◌, List, [], ◌∷◌, ◌++◌, take, drop, Bool, not, ◌&&◌, true, false, Option, Some, None, option_map, refl, ap, sym, subst, ◌∙◌, arith}
+use Rattle.std.specs.Prelude.{◌==◌, if◌then◌else◌, IfOk, Result, Ok, Err}
+use Rattle.lane_core.specs.Register.{IsRegister, lane, build, wrapped}
 use Rattle.lane_core.specs.Kernels.{put_of}
 use Rattle.lane_core.specs.declared.table.Arg.{Arg}
 use Rattle.lane_core.specs.declared.table.Arg.TheVariants as arg
@@ -47,14 +47,14 @@ use Rattle.seq_pack.proofs.Tested.{reduced_below, no_common, none_left, equal_no
 use Rattle.seq_core.specs.declared.terms.Seq.{Seq}
 use Rattle.seq_core.specs.View.{view_seq}
 use Rattle.seq_core.specs.Formed.{vector}
-use Rattle.seq_core.specs.Terms.{Sequence, Param, Const}
+use Rattle.seq_core.specs.Terms.{Sequence, Param}
 use Rattle.seq_core.specs.Values.{evaluated}
 use Rattle.seq_pack.specs.declared.plans.Shape.{Shape}
 use Rattle.seq_pack.specs.declared.plans.Shape.TheVariants as shape
 use Rattle.seq_pack.specs.Calls.{operands, over}
 use Rattle.seq_pack.specs.Terms as term
 use Rattle.seq_pack.specs.Terms.{zeros, kept_bits}
-use Rattle.seq_pack.specs.Plans.{sequence_of, planned_two, planned_blend, planned_scalar, planned}
+use Rattle.seq_pack.specs.Plans.{sequence_of, planned}
 use Rattle.seq_pack.proofs.Packs.{pack_words, pack_dwords, pack_words_unsigned, pack_dwords_unsigned, chained_is}
 use Rattle.seq_pack.proofs.Selections.{shuffles, blends_bytes, blends_words, blends_dwords, blends_none, blends_all, low_words, high_words, low_dwords, high_dwords}
 use Rattle.seq_pack.proofs.Numbers.{passed, char_passed, short_passed, int_passed, long_passed, int_passed_byte, int_passed_word, byte_given, word_given, dword_given, qword_given}

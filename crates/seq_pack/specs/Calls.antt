@@ -11,7 +11,6 @@ use Rattle.neon_move.specs.declared.MoveOp.TheVariants.{ToUnsigned, ToSigned}
 use Rattle.neon_move.specs.declared.to_signed.ToSigned.TheVariants as to_signed
 use Rattle.neon_move.specs.declared.to_unsigned.ToUnsigned.TheVariants as to_unsigned
 use Rattle.neon_lane.specs.declared.LaneOp.{LaneOp}
-use Rattle.neon_table.specs.declared.NeonOp.{NeonOp}
 use Rattle.neon_table.specs.Rows.{of_lane, of_move}
 use Rattle.seq_core.specs.Terms.{Term, Call, NoTerms, More, Sequence}
 
