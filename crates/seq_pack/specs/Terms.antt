@@ -61,14 +61,35 @@ abbrev pub qwords : Bool → Term → Term
 qwords true x = widened VgetLowS32 VmovlS32 x
 qwords false x = widened VgetLowU32 VmovlU32 x
 
+-- the widths of an extension
+abbrev pub narrow : Extension → Width
+narrow ByteWord = Byte
+narrow ByteDword = Byte
+narrow ByteQword = Byte
+narrow WordDword = Word
+narrow WordQword = Word
+narrow DwordQword = Dword
+
+abbrev pub wide : Extension → Width
+wide ByteWord = Word
+wide ByteDword = Dword
+wide ByteQword = Qword
+wide WordDword = Dword
+wide WordQword = Qword
+wide DwordQword = Qword
+
+-- its steps, each to twice the width
+abbrev pub steps_up : Bool → Extension → Term → Term
+steps_up s ByteWord x = words s x
+steps_up s ByteDword x = dwords s (words s x)
+steps_up s ByteQword x = qwords s (dwords s (words s x))
+steps_up s WordDword x = dwords s x
+steps_up s WordQword x = qwords s (dwords s x)
+steps_up s DwordQword x = qwords s x
+
 -- the low lanes of the operand, extended
 abbrev pub extended : Bool → Extension → Term
-extended s ByteWord = back (elements s Word) (words s (into (elements s Byte) (Param 0)))
-extended s ByteDword = back (elements s Dword) (dwords s (words s (into (elements s Byte) (Param 0))))
-extended s ByteQword = back (elements s Qword) (qwords s (dwords s (words s (into (elements s Byte) (Param 0)))))
-extended s WordDword = back (elements s Dword) (dwords s (into (elements s Word) (Param 0)))
-extended s WordQword = back (elements s Qword) (qwords s (dwords s (into (elements s Word) (Param 0))))
-extended s DwordQword = back (elements s Qword) (qwords s (into (elements s Dword) (Param 0)))
+extended s widths = back (elements s (wide widths)) (steps_up s widths (into (elements s (narrow widths)) (Param 0)))
 
 -- ---- selections
 

@@ -4,7 +4,7 @@ ghost use Rattle.std.specs.Prelude.{◌≡◌, ◌+◌, ◌*◌, ◌/◌, ◌%�
 ghost use Rattle.intel_lanes.specs.Lanes.{bytes_of};
 ghost use Rattle.seq_core.specs.View.{view};
 ghost use Rattle.seq_pack.specs.Terms as term;
-ghost use Rattle.seq_pack.specs.Terms.{packed, elements, widened, words, dwords, qwords, extended, shuffled, blended_bytes, mask, by_mask, halves, blended, unsigned_type, duplicating, setting, all_lanes, with_lane, lane_at};
+ghost use Rattle.seq_pack.specs.Terms.{packed, elements, widened, words, dwords, qwords, narrow, wide, steps_up, extended, shuffled, blended_bytes, mask, by_mask, halves, blended, unsigned_type, duplicating, setting, all_lanes, with_lane, lane_at};
 
 use crate::calls::{back, into, moved, moved_two, worked, worked_three, worked_two};
 use intel_forms::Extension;
@@ -109,60 +109,52 @@ fn qwords(alloc: Global, signs: bool, x: Term) -> Result<Term, AllocError>
     }
 }
 
+/// The width that is extended.
+fn narrow(widths: Extension) -> Width
+    ensures { result ≡ narrow widths }
+{
+    match widths {
+        Extension::ByteWord | Extension::ByteDword | Extension::ByteQword => Width::Byte,
+        Extension::WordDword | Extension::WordQword => Width::Word,
+        Extension::DwordQword => Width::Dword,
+    }
+}
+
+/// The width to which it is extended.
+fn wide(widths: Extension) -> Width
+    ensures { result ≡ wide widths }
+{
+    match widths {
+        Extension::ByteWord => Width::Word,
+        Extension::ByteDword | Extension::WordDword => Width::Dword,
+        Extension::ByteQword | Extension::WordQword | Extension::DwordQword => Width::Qword,
+    }
+}
+
+/// The steps of an extension, each to twice the width.
+fn steps_up(alloc: Global, signs: bool, widths: Extension, x: Term) -> Result<Term, AllocError>
+    ensures { IfOk result (λ t. view t ≡ steps_up signs widths (view x)) }
+{
+    match widths {
+        Extension::ByteWord => words(alloc, signs, x),
+        Extension::ByteDword => dwords(alloc, signs, words(alloc, signs, x)?),
+        Extension::ByteQword => {
+            let x = words(alloc, signs, x)?;
+            qwords(alloc, signs, dwords(alloc, signs, x)?)
+        }
+        Extension::WordDword => dwords(alloc, signs, x),
+        Extension::WordQword => qwords(alloc, signs, dwords(alloc, signs, x)?),
+        Extension::DwordQword => qwords(alloc, signs, x),
+    }
+}
+
 /// The low lanes of the operand, extended.
 pub fn extended(alloc: Global, signs: bool, widths: Extension) -> Result<Term, AllocError>
     ensures { IfOk result (λ t. view t ≡ extended signs widths) }
 {
-    match widths {
-        Extension::ByteWord => {
-            let x = into(alloc, elements(signs, Width::Byte), Term::Param(0))?;
-            back(alloc, elements(signs, Width::Word), words(alloc, signs, x)?)
-        }
-        Extension::ByteDword => {
-            let x = into(alloc, elements(signs, Width::Byte), Term::Param(0))?;
-            let x = words(alloc, signs, x)?;
-            back(
-                alloc,
-                elements(signs, Width::Dword),
-                dwords(alloc, signs, x)?,
-            )
-        }
-        Extension::ByteQword => {
-            let x = into(alloc, elements(signs, Width::Byte), Term::Param(0))?;
-            let x = words(alloc, signs, x)?;
-            let x = dwords(alloc, signs, x)?;
-            back(
-                alloc,
-                elements(signs, Width::Qword),
-                qwords(alloc, signs, x)?,
-            )
-        }
-        Extension::WordDword => {
-            let x = into(alloc, elements(signs, Width::Word), Term::Param(0))?;
-            back(
-                alloc,
-                elements(signs, Width::Dword),
-                dwords(alloc, signs, x)?,
-            )
-        }
-        Extension::WordQword => {
-            let x = into(alloc, elements(signs, Width::Word), Term::Param(0))?;
-            let x = dwords(alloc, signs, x)?;
-            back(
-                alloc,
-                elements(signs, Width::Qword),
-                qwords(alloc, signs, x)?,
-            )
-        }
-        Extension::DwordQword => {
-            let x = into(alloc, elements(signs, Width::Dword), Term::Param(0))?;
-            back(
-                alloc,
-                elements(signs, Width::Qword),
-                qwords(alloc, signs, x)?,
-            )
-        }
-    }
+    let x = into(alloc, elements(signs, narrow(widths)), Term::Param(0))?;
+    let x = steps_up(alloc, signs, widths, x)?;
+    back(alloc, elements(signs, wide(widths)), x)
 }
 
 /// Bytes of the first operand chosen by the second.
