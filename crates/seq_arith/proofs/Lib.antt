@@ -3,6 +3,9 @@ pub mod Wide
 pub mod Sums
 pub mod Rounded
 pub mod Signs
+pub mod ByteProducts
+pub mod Fours
 pub mod Dwords
+pub mod Amounts
 pub mod Values
 pub mod Shapes

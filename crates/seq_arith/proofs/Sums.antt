@@ -63,7 +63,7 @@ of_positive m = go (int_lt (pos m) (pos 0)) refl
     go true e = absurd (grind (arith, ints, e))
     go false e = refl
 
-difference_is : (x y : ℕ) → x < 256 → y < 256 → wrapped 1 (abs_of (pos x -ℤ pos y)) % 256 ≡ difference x y
+pub difference_is : (x y : ℕ) → x < 256 → y < 256 → wrapped 1 (abs_of (pos x -ℤ pos y)) % 256 ≡ difference x y
 difference_is x y h k = elim (cases_lt x y) [
   | inl b ↦
       let e : pos x -ℤ pos y ≡ negsuc (y - x - 1) = omega (arith, ints, b) in
@@ -73,11 +73,11 @@ difference_is x y h k = elim (cases_lt x y) [
       ap (λ (z : ℤ). wrapped 1 (abs_of z) % 256) e ∙ ap (λ v. v % 256) (of_positive (x - y)) ∙ omega (arith, b, h, k)
 ]
 
-difference_below : (x y : ℕ) → x < 256 → y < 256 → difference x y < 256
+pub difference_below : (x y : ℕ) → x < 256 → y < 256 → difference x y < 256
 difference_below x y h k = omega (arith, h, k)
 
 -- one step of a sum of adjacent lanes
-pair_sum : (w n m : ℕ) (g : ℕ → ℕ) → n ≡ 2 * m → ((j : ℕ) → j < n → g j < 256 ^ w) → ((j : ℕ) → j < m → g (2 * j) + g (2 * j + 1) < 256 ^ (2 * w))
+pub pair_sum : (w n m : ℕ) (g : ℕ → ℕ) → n ≡ 2 * m → ((j : ℕ) → j < n → g j < 256 ^ w) → ((j : ℕ) → j < m → g (2 * j) + g (2 * j + 1) < 256 ^ (2 * w))
     → build (2 * w) m (λ e. wrapped (2 * w) (pos (lane w (build w n g) (2 * e)) +ℤ pos (lane w (build w n g) (2 * e + 1)))) ≡ build (2 * w) m (λ e. g (2 * e) + g (2 * e + 1))
 unfolding wrapped
 pair_sum w n m g s small fits =

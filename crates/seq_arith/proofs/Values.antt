@@ -5,6 +5,7 @@ use Rattle.std.specs.Int.{int_shr}
 use Rattle.std.specs.Int.Bits.{and_comm}
 use Rattle.lane_core.specs.Register.{IsRegister, signed, wrapped, lane, build}
 use Rattle.lane_core.specs.Kernels.{map1_of, map2_of}
+use Rattle.lane_core.specs.declared.vector.NeonLane.TheVariants.{U16, U32, U64, S16, S32, S64}
 use Rattle.lane_core.specs.declared.table.Arg.{Arg}
 use Rattle.lane_core.specs.declared.table.Arg.TheVariants as arg
 use Rattle.lane_core.specs.declared.table.ParamKind.TheVariants as kind
@@ -22,15 +23,17 @@ use Rattle.intel_lanes.specs.declared.lanes.Shift.TheVariants as shift
 use Rattle.intel_lanes.specs.declared.blocks.One.TheVariants as one
 use Rattle.intel_lanes.specs.declared.blocks.Two.TheVariants as two
 use Rattle.intel_lanes.specs.declared.blocks.OneImm.TheVariants as one_imm
+use Rattle.intel_lanes.specs.declared.blocks.TwoImm.{TwoImm}
+use Rattle.intel_lanes.specs.declared.blocks.TwoImm.TheVariants.{SumsOfFour}
 use Rattle.intel_lanes.specs.Lanes.{bytes_of, lane1_of, lane2_of, shift_of}
-use Rattle.intel_lanes.specs.Blocks.{lanes1, lanes2, pairs, shifted, multiply_even, multiply_even_unsigned, multiply_add, sum_differences}
+use Rattle.intel_lanes.specs.Blocks.{lanes1, lanes2, pairs, shifted, multiply_even, multiply_even_unsigned, multiply_add, multiply_add_bytes, sum_differences, two_imm_of}
 use Rattle.intel_lanes.specs.Laws.{width_is, word, xmm}
 use Rattle.intel_forms.specs.declared.sizes.Size.TheVariants.{Xmm}
 use Rattle.intel_forms.specs.declared.forms.Form.{Form}
 use Rattle.intel_forms.specs.declared.forms.Form.TheVariants as form
-use Rattle.intel_forms.specs.Forms.{signature_of, value_of, one_value, two_value, one_imm_value}
+use Rattle.intel_forms.specs.Forms.{signature_of, value_of, one_value, two_value, counted_value, one_imm_value, two_imm_value}
 use Rattle.neon_elements.specs.Elements.{signed_sat, unsigned_sat, abs_of}
-use Rattle.neon_elements.specs.Vectors.{each1, each2, compared, pair_sums, shifted_left, shifted_right, unzipped}
+use Rattle.neon_elements.specs.Vectors.{each1, each2, compared, pair_sums, shifted_left, shifted_right, unzipped, duplicated_lane}
 use Rattle.seq_core.specs.declared.terms.Seq.{Seq}
 use Rattle.seq_core.specs.View.{view_seq}
 use Rattle.seq_core.specs.Terms.{Sequence, Param, Const}
@@ -39,10 +42,13 @@ use Rattle.seq_arith.specs.declared.plans.Shape.{Shape}
 use Rattle.seq_arith.specs.declared.plans.Shape.TheVariants as shape
 use Rattle.seq_arith.specs.Calls.{operands, on_one, over_one}
 use Rattle.seq_arith.specs.Rows.{shift_row_of}
-use Rattle.seq_arith.specs.Plans.{shifted_by, sequence_of, planned_two, planned}
+use Rattle.seq_arith.specs.Plans.{shifted_by, sequence_of, by_count, planned_two, planned}
 use Rattle.seq_arith.proofs.Sums.{added_products, differences}
 use Rattle.seq_arith.proofs.Rounded.{rounded_products}
 use Rattle.seq_arith.proofs.Signs.{signs_1, signs_2, signs_4}
+use Rattle.seq_arith.proofs.ByteProducts.{added_bytes}
+use Rattle.seq_arith.proofs.Fours.{sums}
+use Rattle.seq_arith.proofs.Amounts.{left_qwords, right_qwords, arithmetic_qwords, counted, low_2, low_4, low_8}
 use Rattle.seq_arith.proofs.Dwords.{left_dwords, right_dwords, arithmetic_dwords}
 use Rattle.seq_arith.proofs.Wide.{uneven, high_signed, high_unsigned, even_signed, even_unsigned}
 use Rattle.seq_arith.proofs.Kernels.{saturate_is, saturate_unsigned_is, average_is, min_is, min_unsigned_is, max_unsigned_is, absolute_is, none_shifted, right_is, arithmetic_is}
@@ -150,6 +156,9 @@ lanes2_give op.Sign Dword imm = λ a b h k. as_register (signs_4 a b h k)
 lanes2_give (op.ShiftBy shift.Left) Dword imm = λ a b h k. as_register (left_dwords a b h k)
 lanes2_give (op.ShiftBy shift.Right) Dword imm = λ a b h k. as_register (right_dwords a b h k)
 lanes2_give (op.ShiftBy shift.Arithmetic) Dword imm = λ a b h k. as_register (arithmetic_dwords a b h k)
+lanes2_give (op.ShiftBy shift.Left) Qword imm = λ a b h k. as_register (left_qwords a b h k)
+lanes2_give (op.ShiftBy shift.Right) Qword imm = λ a b h k. as_register (right_qwords a b h k)
+lanes2_give (op.ShiftBy shift.Arithmetic) Qword imm = λ a b h k. as_register (arithmetic_qwords a b h k)
 lanes2_give op.Min Byte imm = λ a b h k. as_register (least 1 a b h k)
 lanes2_give op.Min Word imm = λ a b h k. as_register (least 2 a b h k)
 lanes2_give op.Min Dword imm = λ a b h k. as_register (least 4 a b h k)
@@ -175,6 +184,19 @@ lanes2_give op.Less Word imm = λ a b h k. as_register (less 2 a b)
 lanes2_give op.Less Dword imm = λ a b h k. as_register (less 4 a b)
 lanes2_give op.Less Qword imm = λ a b h k. as_register (less 8 a b)
 lanes2_give _ _ imm = tt
+
+counted_give : (s : Shift) (width : Width) (imm : ℕ) → Gives2 (by_count s width) imm (λ a b. shifted s (bytes_of width) (lane 8 b 0) a)
+unfolding each2 duplicated_lane
+counted_give shift.Left Word imm = λ a b h k. as_register (counted shift.Left U16 a b (omega arith) low_2 h k)
+counted_give shift.Left Dword imm = λ a b h k. as_register (counted shift.Left U32 a b (omega arith) low_4 h k)
+counted_give shift.Left Qword imm = λ a b h k. as_register (counted shift.Left U64 a b (omega arith) low_8 h k)
+counted_give shift.Right Word imm = λ a b h k. as_register (counted shift.Right U16 a b (omega arith, omega arith, refl) low_2 h k)
+counted_give shift.Right Dword imm = λ a b h k. as_register (counted shift.Right U32 a b (omega arith, omega arith, refl) low_4 h k)
+counted_give shift.Right Qword imm = λ a b h k. as_register (counted shift.Right U64 a b (omega arith, omega arith, refl) low_8 h k)
+counted_give shift.Arithmetic Word imm = λ a b h k. as_register (counted shift.Arithmetic S16 a b (omega arith, omega arith, refl) low_2 h k)
+counted_give shift.Arithmetic Dword imm = λ a b h k. as_register (counted shift.Arithmetic S32 a b (omega arith, omega arith, refl) low_4 h k)
+counted_give shift.Arithmetic Qword imm = λ a b h k. as_register (counted shift.Arithmetic S64 a b (omega arith, omega arith, refl) low_8 h k)
+counted_give _ Byte imm = tt
 
 -- the even words of two vectors, or the odd ones
 abbrev lanes_from : ℕ → List ℕ → List ℕ → List ℕ
@@ -312,6 +334,14 @@ two_due (Some p) imm f h = go
     go (arg.R16 a ∷ arg.R16 b ∷ []) k = h a b k.0.1 k.1.0.1
     go _ k = absurd (grind (arith, k))
 
+counted_due : (o : Option Shape) (imm : ℕ) (f : ℕ → List ℕ → List ℕ) → Gives2 o imm (λ a b. f (lane 8 b 0) a) → Due o imm (signature (kind.Reg 16) (kind.Reg 16 ∷ kind.Reg 16 ∷ [])) (counted_value Xmm f)
+counted_due None imm f h = tt
+counted_due (Some p) imm f h = go
+  where
+    go : (args : List Arg) → FitsKinds (kind.Reg 16 ∷ kind.Reg 16 ∷ []) args → evaluated (sequence_of p imm) (operands (kind.Reg 16 ∷ kind.Reg 16 ∷ []) args) ≡ Some (counted_value Xmm f args)
+    go (arg.R16 a ∷ arg.R16 b ∷ []) k = h a b k.0.1 k.1.0.1
+    go _ k = absurd (grind (arith, k))
+
 imm_due : (o : Option Shape) (imm : ℕ) (f : List ℕ → List ℕ) → Gives1 o imm f → Due o imm (signature (kind.Reg 16) (kind.Reg 16 ∷ kind.Immediate ∷ [])) (one_imm_value Xmm f)
 imm_due None imm f h = tt
 imm_due (Some p) imm f h = go
@@ -319,6 +349,16 @@ imm_due (Some p) imm f h = go
     go : (args : List Arg) → FitsKinds (kind.Reg 16 ∷ kind.Immediate ∷ []) args
         → evaluated (sequence_of p imm) (operands (kind.Reg 16 ∷ kind.Immediate ∷ []) args) ≡ Some (one_imm_value Xmm f args)
     go (arg.R16 a ∷ arg.Nothing ∷ []) k = h a k.0.1
+    go _ k = absurd (grind (arith, k))
+
+two_imm_due : (o : Option Shape) (imm : ℕ) (t : TwoImm) → Gives2 o imm (λ a b. two_imm_of t a b imm)
+    → Due o imm (signature (kind.Reg 16) (kind.Reg 16 ∷ kind.Reg 16 ∷ kind.Immediate ∷ [])) (λ args. two_imm_value Xmm t args imm)
+two_imm_due None imm t h = tt
+two_imm_due (Some p) imm t h = go
+  where
+    go : (args : List Arg) → FitsKinds (kind.Reg 16 ∷ kind.Reg 16 ∷ kind.Immediate ∷ []) args
+        → evaluated (sequence_of p imm) (operands (kind.Reg 16 ∷ kind.Reg 16 ∷ kind.Immediate ∷ []) args) ≡ Some (two_imm_value Xmm t args imm)
+    go (arg.R16 a ∷ arg.R16 b ∷ arg.Nothing ∷ []) k = h a b k.0.1 k.1.0.1
     go _ k = absurd (grind (arith, k))
 
 pub plan_due : (f : Form) (imm : ℕ) → Due (planned f) imm (signature_of f) (λ args. value_of f args imm)
@@ -329,6 +369,9 @@ plan_due (form.Two Xmm two.MultiplyEven) imm = two_due (Some (shape.EvenProducts
 plan_due (form.Two Xmm two.MultiplyEvenUnsigned) imm = two_due (Some (shape.EvenProducts false)) imm multiply_even_unsigned (λ a b h k. as_register (even_unsigned a b h k))
 plan_due (form.Two Xmm two.MultiplyAdd) imm = two_due (Some shape.AddedProducts) imm multiply_add (λ a b h k. as_register (added_products a b h k))
 plan_due (form.Two Xmm two.SumDifferences) imm = two_due (Some shape.SumDifferences) imm sum_differences (λ a b h k. as_register (differences a b h k))
+plan_due (form.Counted Xmm s width) imm = counted_due (by_count s width) imm (shifted s (bytes_of width)) (counted_give s width imm)
+plan_due (form.Two Xmm two.MultiplyAddBytes) imm = two_due (Some shape.AddedBytes) imm multiply_add_bytes (λ a b h k. as_register (added_bytes a b h k))
+plan_due (form.TwoImm Xmm SumsOfFour) imm = two_imm_due (Some shape.SumsOfFour) imm SumsOfFour (λ a b h k. as_register (sums a b imm h k))
 plan_due (form.OneImm Xmm (one_imm.Shifted s width)) imm = imm_due (Some (shape.Shifted s width)) imm (shifted s (bytes_of width) imm) (shift_gives s width imm)
 plan_due _ imm = tt
 

@@ -1,7 +1,7 @@
 -- The sequence of each row, and the rows that have one here.
 use Rattle.std.specs.Prelude.{ℕ, ◌*◌, ◌==◌, min, nat_lt, replicate, Bool, false, true, Option, Some, None, option_map, is_some, if◌then◌else◌}
 use Rattle.intel_lanes.specs.declared.lanes.Width.{Width}
-use Rattle.intel_lanes.specs.declared.lanes.Width.TheVariants.{Word, Dword, Qword}
+use Rattle.intel_lanes.specs.declared.lanes.Width.TheVariants.{Byte, Word, Dword, Qword}
 use Rattle.intel_lanes.specs.declared.lanes.Lane2.{Lane2}
 use Rattle.intel_lanes.specs.declared.lanes.Lane2.TheVariants as op
 use Rattle.intel_lanes.specs.declared.lanes.Shift.{Shift}
@@ -10,6 +10,7 @@ use Rattle.intel_lanes.specs.declared.blocks.One.TheVariants as one
 use Rattle.intel_lanes.specs.declared.blocks.Two.{Two}
 use Rattle.intel_lanes.specs.declared.blocks.Two.TheVariants as two
 use Rattle.intel_lanes.specs.declared.blocks.OneImm.TheVariants as one_imm
+use Rattle.intel_lanes.specs.declared.blocks.TwoImm.TheVariants.{SumsOfFour}
 use Rattle.intel_lanes.specs.Lanes.{bytes_of}
 use Rattle.intel_forms.specs.declared.sizes.Size.TheVariants.{Xmm}
 use Rattle.intel_forms.specs.declared.forms.Form.{Form}
@@ -24,8 +25,8 @@ use Rattle.seq_arith.specs.declared.plans.Shape.{Shape}
 use Rattle.seq_arith.specs.declared.plans.Shape.TheVariants as shape
 use Rattle.seq_arith.specs.Calls.{on_one, on_two, over_one, over_two}
 use Rattle.seq_arith.specs.Rows.{row1_of, row2_of, is_exchanged, pair_sums, shift_row_of}
-use Rattle.seq_arith.specs.Counts.{dword_shifts}
-use Rattle.seq_arith.specs.Products.{high_words, even_products, on_uneven, added_products, differences, rounded_products, signs}
+use Rattle.seq_arith.specs.Counts.{dword_shifts, qword_shifts, counted_shifts}
+use Rattle.seq_arith.specs.Products.{high_words, even_products, on_uneven, added_products, differences, rounded_products, signs, added_bytes, sums_of_four}
 
 -- a shift of the first operand by a constant that isn't 0: none is left from the width on, or the sign
 abbrev pub shifted_by : Shift → Width → ℕ → Term
@@ -42,9 +43,13 @@ sequence_of (shape.HighWords signs) imm = over_two (high_words signs)
 sequence_of (shape.EvenProducts signs) imm = over_two (even_products signs)
 sequence_of shape.AddedProducts imm = over_two added_products
 sequence_of shape.SumDifferences imm = over_two differences
+sequence_of shape.AddedBytes imm = over_two added_bytes
+sequence_of shape.SumsOfFour imm = over_two (sums_of_four imm)
 sequence_of shape.RoundedProducts imm = over_two rounded_products
 sequence_of (shape.Signs width) imm = over_two (signs width)
 sequence_of (shape.ShiftedBy s) imm = over_two (dword_shifts s)
+sequence_of (shape.QwordsBy s) imm = over_two (qword_shifts s)
+sequence_of (shape.Counted s width) imm = over_two (counted_shifts s width)
 sequence_of (shape.Shifted shift width) imm = over_one (if imm == 0 then Param 0 else shifted_by shift width imm)
 
 abbrev pub ordered : Bool → NeonOp → Shape
@@ -55,10 +60,16 @@ abbrev pub for_words : Width → Shape → Option Shape
 for_words Word s = Some s
 for_words _ s = None
 
--- where the lanes are dwords
-abbrev pub for_dwords : Width → Shape → Option Shape
-for_dwords Dword s = Some s
-for_dwords _ s = None
+-- lanes by lanes, where they are dwords or qwords
+abbrev pub by_lanes : Shift → Width → Option Shape
+by_lanes s Dword = Some (shape.ShiftedBy s)
+by_lanes s Qword = Some (shape.QwordsBy s)
+by_lanes s _ = None
+
+-- lanes by one count, where they aren't bytes
+abbrev pub by_count : Shift → Width → Option Shape
+by_count s Byte = None
+by_count s width = Some (shape.Counted s width)
 
 -- where one row multiplies the lanes
 abbrev pub for_sign : Width → Option Shape
@@ -70,7 +81,7 @@ planned_lanes op.MultiplyHigh width = for_words width (shape.HighWords true)
 planned_lanes op.MultiplyHighUnsigned width = for_words width (shape.HighWords false)
 planned_lanes op.MultiplyRound width = for_words width shape.RoundedProducts
 planned_lanes op.Sign width = for_sign width
-planned_lanes (op.ShiftBy s) width = for_dwords width (shape.ShiftedBy s)
+planned_lanes (op.ShiftBy s) width = by_lanes s width
 planned_lanes o width = option_map (ordered (is_exchanged o)) (row2_of o width)
 
 -- a row of even and odd lanes
@@ -92,6 +103,7 @@ planned_two (two.Pairs o width) = planned_pairs o width
 planned_two two.MultiplyEven = Some (shape.EvenProducts true)
 planned_two two.MultiplyEvenUnsigned = Some (shape.EvenProducts false)
 planned_two two.MultiplyAdd = Some shape.AddedProducts
+planned_two two.MultiplyAddBytes = Some shape.AddedBytes
 planned_two two.SumDifferences = Some shape.SumDifferences
 planned_two _ = None
 
@@ -99,8 +111,15 @@ planned_two _ = None
 abbrev pub planned : Form → Option Shape
 planned (form.One Xmm (one.Lanes op width)) = option_map shape.One (row1_of op width)
 planned (form.Two Xmm op) = planned_two op
+planned (form.Counted Xmm s width) = by_count s width
+planned (form.TwoImm Xmm SumsOfFour) = Some shape.SumsOfFour
 planned (form.OneImm Xmm (one_imm.Shifted shift width)) = Some (shape.Shifted shift width)
 planned _ = None
+
+-- the most rows that a sequence may call: 4 where the row is scalar by nature
+abbrev pub ceiling_of : Form → ℕ
+ceiling_of (form.Counted size s width) = 4
+ceiling_of f = 24
 
 -- the row computes lane by lane on 128 bits, and has a sequence here
 abbrev pub is_arithmetic : IntelOp → Bool

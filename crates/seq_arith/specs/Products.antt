@@ -1,20 +1,26 @@
 -- The terms of rows that take several calls.
-use Rattle.std.specs.Prelude.{ℕ, List, [], ◌∷◌, replicate, Bool, true, false}
+use Rattle.std.specs.Prelude.{ℕ, ◌+◌, ◌*◌, ◌/◌, ◌%◌, List, [], ◌∷◌, replicate, Bool, true, false}
+use Rattle.lane_core.specs.Register.{build}
 use Rattle.lane_core.specs.declared.vector.NeonLane.{NeonLane}
-use Rattle.lane_core.specs.declared.vector.NeonLane.TheVariants.{U16, U64, S8, S16, S32, S64}
+use Rattle.lane_core.specs.declared.vector.NeonLane.TheVariants.{U16, U32, U64, S8, S16, S32, S64}
 use Rattle.intel_lanes.specs.declared.lanes.Width.{Width}
 use Rattle.intel_lanes.specs.declared.lanes.Width.TheVariants.{Byte, Word, Dword, Qword}
 use Rattle.neon_lane.specs.declared.LaneOp.{LaneOp}
-use Rattle.neon_lane.specs.declared.LaneOp.TheVariants.{Arithmetic, Extremes, Products, Saturating}
+use Rattle.neon_lane.specs.declared.LaneOp.TheVariants.{Arithmetic, Extremes, Products, Saturating, Shifts}
 use Rattle.neon_lane.specs.declared.arithmetic.Arithmetic.TheVariants.{VmulqS8, VmulqS16, VmulqS32}
 use Rattle.neon_lane.specs.declared.extremes.Extremes.TheVariants.{VmaxqS8, VmaxqS16, VmaxqS32, VminqS8, VminqS16, VminqS32}
-use Rattle.neon_lane.specs.declared.products.Products.TheVariants.{VmullS16, VmullU16, VmullS32, VmullU32, VmullHighS16, VmullHighU16, VpaddlqU8, VpaddlqU16, VpaddlqU32, VpaddqS32}
-use Rattle.neon_lane.specs.declared.saturating.Saturating.TheVariants.{VabdqU8}
+use Rattle.neon_lane.specs.declared.products.Products.TheVariants.{VmullS16, VmullU16, VmullS32, VmullU32, VmullHighS16, VmullHighU16, VpaddlqU8, VpaddlqU16, VpaddlqU32, VpaddqU16, VpaddqS32}
+use Rattle.neon_lane.specs.declared.saturating.Saturating.TheVariants.{VabdqU8, VqaddqS16}
+use Rattle.neon_lane.specs.declared.shifts.Shifts as lane
+use Rattle.neon_lane.specs.declared.shifts.Shifts.TheVariants.{VshlqNU16, VshlqNS16, VshrqNU16, VshrqNS16}
 use Rattle.neon_move.specs.declared.MoveOp.{MoveOp}
-use Rattle.neon_move.specs.declared.MoveOp.TheVariants.{Halves, Narrowed, Permuting, ToUnsigned}
+use Rattle.neon_move.specs.declared.MoveOp.TheVariants.{Bytes, Halves, Narrowed, Permuting, Places, ToSigned, ToUnsigned}
+use Rattle.neon_move.specs.declared.bytes.Bytes.TheVariants.{Vqtbl1qU8}
 use Rattle.neon_move.specs.declared.halves.Halves.TheVariants.{VgetLowS16, VgetLowU16, VcombineS16}
 use Rattle.neon_move.specs.declared.narrowed.Narrowed.TheVariants.{VmovnS64, VmovnU64, VrshrnNS32}
 use Rattle.neon_move.specs.declared.permuting.Permuting.TheVariants.{Vuzp2qU16}
+use Rattle.neon_move.specs.declared.places.Places.TheVariants.{VdupqLaneqU32}
+use Rattle.neon_move.specs.declared.to_signed.ToSigned.TheVariants.{VreinterpretqS16U16}
 use Rattle.neon_move.specs.declared.to_unsigned.ToUnsigned.TheVariants.{VreinterpretqU16S32, VreinterpretqU16U32}
 use Rattle.neon_table.specs.declared.NeonOp.{NeonOp}
 use Rattle.neon_table.specs.Rows.{of_lane, of_move}
@@ -100,3 +106,33 @@ abbrev pub signs : Width → Term
 signs Byte = by_sign (Arithmetic VmulqS8) (Extremes VmaxqS8) (Extremes VminqS8) S8 (ones Byte)
 signs Word = by_sign (Arithmetic VmulqS16) (Extremes VmaxqS16) (Extremes VminqS16) S16 (ones Word)
 signs _ = by_sign (Arithmetic VmulqS32) (Extremes VmaxqS32) (Extremes VminqS32) S32 (ones Dword)
+
+-- a vector of words shifted by a byte
+abbrev pub by_byte : lane.Shifts → Term → Term
+by_byte row x = Call (of_lane (Shifts row)) (More x NoTerms) 8
+
+-- the products of the even bytes as words, and of the odd bytes: those of the first operand without a sign, those of the second with one
+abbrev pub even_bytes : Term
+even_bytes = two (of_lane (Arithmetic VmulqS16)) (reread (ToSigned VreinterpretqS16U16) (by_byte VshrqNU16 (by_byte VshlqNU16 (into U16 (Param 0))))) (by_byte VshrqNS16 (by_byte VshlqNS16 (into S16 (Param 1))))
+
+abbrev pub odd_bytes : Term
+odd_bytes = two (of_lane (Arithmetic VmulqS16)) (reread (ToSigned VreinterpretqS16U16) (by_byte VshrqNU16 (into U16 (Param 0)))) (by_byte VshrqNS16 (into S16 (Param 1)))
+
+-- and their sums
+abbrev pub added_bytes : Term
+added_bytes = back S16 (two (of_lane (Saturating VqaddqS16)) even_bytes odd_bytes)
+
+-- the places of four adjacent bytes, from four adjacent places on
+abbrev pub fours : ℕ → List ℕ
+fours first = build 1 16 (λ i. first + (i / 4 + i % 4))
+
+-- the differences of these bytes of the first operand and of one dword of the second
+abbrev pub four_differences : ℕ → ℕ → Term
+four_differences first dword = two (of_lane (Saturating VabdqU8))
+    (two (of_move (Bytes Vqtbl1qU8)) (Param 0) (Const (fours first))) (back U32 (Call (of_move (Places VdupqLaneqU32)) (More (into U32 (Param 1)) NoTerms) dword))
+
+-- each four summed, from the places that the immediate gives
+abbrev pub sums_of_four : ℕ → Term
+sums_of_four imm = back U16 (two (of_lane (Products VpaddqU16))
+    (one (of_lane (Products VpaddlqU8)) (four_differences (4 * (imm / 4 % 2)) (imm % 4)))
+    (one (of_lane (Products VpaddlqU8)) (four_differences (4 * (imm / 4 % 2) + 4) (imm % 4))))

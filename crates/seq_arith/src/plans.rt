@@ -11,17 +11,18 @@ ghost use Rattle.seq_core.specs.Values.{evaluated};
 ghost use Rattle.seq_core.specs.Formed.{WellFormed};
 ghost use Rattle.seq_core.specs.Called.{rows_called, plain};
 ghost use Rattle.seq_arith.specs.Calls.{operands};
-ghost use Rattle.seq_arith.specs.Plans.{shifted_by, sequence_of, ordered, for_words, for_dwords, for_sign, planned_lanes, uneven, planned_pairs, planned_two, planned, is_arithmetic, plan_of};
+ghost use Rattle.seq_arith.specs.Plans.{shifted_by, sequence_of, ordered, for_words, by_lanes, by_count, for_sign, planned_lanes, uneven, planned_pairs, planned_two, planned, ceiling_of, is_arithmetic, plan_of};
 ghost use Rattle.seq_arith.specs.Listed.{listed};
 
 use crate::calls::{on_one, on_two, over_one, over_two};
-use crate::counts::dword_shifts;
+use crate::counts::{counted_shifts, dword_shifts, qword_shifts};
 use crate::products::{
-    added_products, differences, even_products, high_words, on_uneven, rounded_products, signs,
+    added_bytes, added_products, differences, even_products, high_words, on_uneven,
+    rounded_products, signs, sums_of_four,
 };
 use crate::rows::{is_exchanged, pair_sums, row1, row2, shift_row};
 use intel_forms::{Form, Size};
-use intel_lanes::blocks::{One, OneImm, Two};
+use intel_lanes::blocks::{One, OneImm, Two, TwoImm};
 use intel_lanes::lanes::{Lane2, Shift, Width};
 use intel_table::IntelOp;
 use neon_move::MoveOp;
@@ -55,6 +56,14 @@ enum Shape {
     Signs(Width),
     /// The dwords of the first operand shifted by those of the second.
     ShiftedBy(Shift),
+    /// The qwords of the first operand shifted by those of the second.
+    QwordsBy(Shift),
+    /// The lanes of the first operand shifted by the low qword of the second.
+    Counted(Shift, Width),
+    /// The products of bytes without a sign and bytes with one, the two of adjacent bytes summed.
+    AddedBytes,
+    /// The differences of bytes, four summed, from the places that the immediate gives.
+    SumsOfFour,
     /// A shift by the immediate.
     Shifted(Shift, Width),
 }
@@ -115,6 +124,10 @@ fn sequence(alloc: Global, shape: Shape, imm: u16) -> Result<Seq, AllocError>
         Shape::RoundedProducts => over_two(alloc, rounded_products(alloc)?),
         Shape::Signs(width) => over_two(alloc, signs(alloc, width)?),
         Shape::ShiftedBy(shift) => over_two(alloc, dword_shifts(alloc, shift)?),
+        Shape::QwordsBy(shift) => over_two(alloc, qword_shifts(alloc, shift)?),
+        Shape::Counted(shift, width) => over_two(alloc, counted_shifts(alloc, shift, width)?),
+        Shape::AddedBytes => over_two(alloc, added_bytes(alloc)?),
+        Shape::SumsOfFour => over_two(alloc, sums_of_four(alloc, imm)?),
         Shape::Shifted(shift, width) => shifted(alloc, shift, width, imm),
     }
 }
@@ -138,12 +151,24 @@ fn for_words(width: Width, shape: Shape) -> Option<Shape>
     }
 }
 
-fn for_dwords(width: Width, shape: Shape) -> Option<Shape>
-    ensures { result ≡ for_dwords width shape }
+/// Lanes by lanes, where they are dwords or qwords.
+fn by_lanes(shift: Shift, width: Width) -> Option<Shape>
+    ensures { result ≡ by_lanes shift width }
 {
     match width {
-        Width::Dword => Some(shape),
-        Width::Byte | Width::Word | Width::Qword => None,
+        Width::Dword => Some(Shape::ShiftedBy(shift)),
+        Width::Qword => Some(Shape::QwordsBy(shift)),
+        Width::Byte | Width::Word => None,
+    }
+}
+
+/// Lanes by one count, where they aren't bytes.
+fn by_count(shift: Shift, width: Width) -> Option<Shape>
+    ensures { result ≡ by_count shift width }
+{
+    match width {
+        Width::Byte => None,
+        Width::Word | Width::Dword | Width::Qword => Some(Shape::Counted(shift, width)),
     }
 }
 
@@ -164,7 +189,7 @@ fn planned_lanes(op: Lane2, width: Width) -> Option<Shape>
         Lane2::MultiplyHigh => for_words(width, Shape::HighWords(true)),
         Lane2::MultiplyHighUnsigned => for_words(width, Shape::HighWords(false)),
         Lane2::Sign => for_sign(width),
-        Lane2::ShiftBy(shift) => for_dwords(width, Shape::ShiftedBy(shift)),
+        Lane2::ShiftBy(shift) => by_lanes(shift, width),
         Lane2::MultiplyRound => for_words(width, Shape::RoundedProducts),
         _ => match row2(op, width) {
             Some(row) => Some(ordered(is_exchanged(op), row)),
@@ -215,6 +240,7 @@ fn planned_two(op: Two) -> Option<Shape>
         Two::MultiplyEven => Some(Shape::EvenProducts(true)),
         Two::MultiplyEvenUnsigned => Some(Shape::EvenProducts(false)),
         Two::MultiplyAdd => Some(Shape::AddedProducts),
+        Two::MultiplyAddBytes => Some(Shape::AddedBytes),
         Two::SumDifferences => Some(Shape::SumDifferences),
         _ => None,
     }
@@ -229,6 +255,8 @@ fn planned(form: Form) -> Option<Shape>
             None => None,
         },
         Form::Two(Size::Xmm, op) => planned_two(op),
+        Form::Counted(Size::Xmm, shift, width) => by_count(shift, width),
+        Form::TwoImm(Size::Xmm, TwoImm::SumsOfFour) => Some(Shape::SumsOfFour),
         Form::OneImm(Size::Xmm, OneImm::Shifted(shift, width)) => Some(Shape::Shifted(
             shift, width,
         )),
@@ -257,7 +285,7 @@ pub fn plan(alloc: Global, op: IntelOp, imm: u16) -> Result<Seq, AllocError>
     requires range { InImmRange (range_of op) imm }
     ensures value { IfOk result (λ s. (args : List Arg) → Fits (signature_of op) args → evaluated (view_seq s) (operands (params_of (signature_of op)) args) ≡ Some (eval_of op args imm)) }
     ensures formed { IfOk result (λ s. WellFormed (view_seq s)) }
-    ensures ceiling { IfOk result (λ s. length (rows_called (view_seq s)) ≤ 24) }
+    ensures ceiling { IfOk result (λ s. length (rows_called (view_seq s)) ≤ ceiling_of (form_of op)) }
     ensures unmarked { IfOk result (λ s. plain (view_seq s) ≡ true) }
     ensures one_call { (names : List (List ℕ)) → listed (form_of op) imm ≡ Some names → IfOk result (λ s. map neon.name_of (rows_called (view_seq s)) ≡ names) }
 {

@@ -1,22 +1,27 @@
 //! The terms of rows that take several calls. The only error of each is want of memory.
 
-ghost use Rattle.std.specs.Prelude.{◌≡◌, IfOk};
+ghost use Rattle.std.specs.Prelude.{◌≡◌, ◌≤◌, IfOk};
 ghost use Rattle.seq_core.specs.View.{view};
-ghost use Rattle.seq_arith.specs.Products.{on_whole, on_parts, low_products, high_products, as_words, high_words, even_products, on_uneven, one, added_products, differences, rounded, rounded_products, cut, by_sign, signs};
+ghost use Rattle.seq_arith.specs.Products.{on_whole, on_parts, low_products, high_products, as_words, high_words, even_products, on_uneven, one, added_products, differences, rounded, rounded_products, cut, by_sign, signs, by_byte, even_bytes, odd_bytes, added_bytes, fours, four_differences, sums_of_four};
 ghost use Rattle.neon_table.specs.Rows.{of_lane};
 
 use crate::calls::{back, into, on_two, reread};
 use intel_lanes::lanes::Width;
-use lane_core::vector::NeonLane::{self, S8, S16, S32, S64, U16, U64};
+use lane_core::vector::NeonLane::{self, S8, S16, S32, S64, U16, U32, U64};
+use lane_core::widths::filled;
 use neon_lane::LaneOp;
 use neon_lane::arithmetic::Arithmetic;
 use neon_lane::extremes::Extremes;
 use neon_lane::products::Products;
 use neon_lane::saturating::Saturating;
+use neon_lane::shifts::Shifts;
 use neon_move::MoveOp;
+use neon_move::bytes::Bytes;
 use neon_move::halves::Halves;
 use neon_move::narrowed::Narrowed;
 use neon_move::permuting::Permuting;
+use neon_move::places::Places;
+use neon_move::to_signed::ToSigned;
 use neon_move::to_unsigned::ToUnsigned;
 use neon_table::{NeonOp, computing, moving};
 use seq_core::{Term, build};
@@ -241,4 +246,90 @@ pub fn signs(alloc: Global, width: Width) -> Result<Term, AllocError>
             )
         }
     }
+}
+
+/// A vector of words shifted by a byte.
+fn by_byte(alloc: Global, row: Shifts, x: Term) -> Result<Term, AllocError>
+    ensures { IfOk result (λ t. view t ≡ by_byte row (view x)) }
+{
+    build::call_one(alloc, computing(LaneOp::Shifts(row)), x, 8)
+}
+
+/// The products of the even bytes as words: those of the first operand without a sign, those of the second with one.
+fn even_bytes(alloc: Global) -> Result<Term, AllocError>
+    ensures { IfOk result (λ t. view t ≡ even_bytes) }
+{
+    let a = into(alloc, U16, Term::Param(0))?;
+    let a = by_byte(
+        alloc,
+        Shifts::VshrqNU16,
+        by_byte(alloc, Shifts::VshlqNU16, a)?,
+    )?;
+    let a = reread(alloc, MoveOp::ToSigned(ToSigned::VreinterpretqS16U16), a)?;
+    let b = into(alloc, S16, Term::Param(1))?;
+    let b = by_byte(
+        alloc,
+        Shifts::VshrqNS16,
+        by_byte(alloc, Shifts::VshlqNS16, b)?,
+    )?;
+    let row = computing(LaneOp::Arithmetic(Arithmetic::VmulqS16));
+    build::call_two(alloc, row, a, b, 0)
+}
+
+/// The products of the odd bytes.
+fn odd_bytes(alloc: Global) -> Result<Term, AllocError>
+    ensures { IfOk result (λ t. view t ≡ odd_bytes) }
+{
+    let a = into(alloc, U16, Term::Param(0))?;
+    let a = by_byte(alloc, Shifts::VshrqNU16, a)?;
+    let a = reread(alloc, MoveOp::ToSigned(ToSigned::VreinterpretqS16U16), a)?;
+    let b = into(alloc, S16, Term::Param(1))?;
+    let b = by_byte(alloc, Shifts::VshrqNS16, b)?;
+    let row = computing(LaneOp::Arithmetic(Arithmetic::VmulqS16));
+    build::call_two(alloc, row, a, b, 0)
+}
+
+/// The products of bytes without a sign and bytes with one, the two of adjacent bytes summed.
+pub fn added_bytes(alloc: Global) -> Result<Term, AllocError>
+    ensures { IfOk result (λ t. view t ≡ added_bytes) }
+{
+    let even = even_bytes(alloc)?;
+    let odd = odd_bytes(alloc)?;
+    let row = computing(LaneOp::Saturating(Saturating::VqaddqS16));
+    back(alloc, S16, build::call_two(alloc, row, even, odd, 0)?)
+}
+
+/// The places of four adjacent bytes, from four adjacent places on.
+fn fours(first: u64) -> [u8; 16]
+    requires { first ≤ 8 }
+    ensures { result ≡ fours first }
+{
+    filled(1, &|i: usize| first + (i / 4 + i % 4) as u64)
+}
+
+/// The differences of these bytes of the first operand and of one dword of the second.
+fn four_differences(alloc: Global, first: u64, dword: u16) -> Result<Term, AllocError>
+    requires { first ≤ 8 }
+    ensures { IfOk result (λ t. view t ≡ four_differences first dword) }
+{
+    let row = moving(MoveOp::Bytes(Bytes::Vqtbl1qU8));
+    let a = build::call_two(alloc, row, Term::Param(0), Term::Const(fours(first)), 0)?;
+    let b = into(alloc, U32, Term::Param(1))?;
+    let row = moving(MoveOp::Places(Places::VdupqLaneqU32));
+    let b = back(alloc, U32, build::call_one(alloc, row, b, dword)?)?;
+    let row = computing(LaneOp::Saturating(Saturating::VabdqU8));
+    build::call_two(alloc, row, a, b, 0)
+}
+
+/// The differences of bytes, four summed, from the places that the immediate gives.
+pub fn sums_of_four(alloc: Global, imm: u16) -> Result<Term, AllocError>
+    ensures { IfOk result (λ t. view t ≡ sums_of_four imm) }
+{
+    let first = 4 * (imm / 4 % 2) as u64;
+    let low = four_differences(alloc, first, imm % 4)?;
+    let low = summed(alloc, Products::VpaddlqU8, low)?;
+    let high = four_differences(alloc, first + 4, imm % 4)?;
+    let high = summed(alloc, Products::VpaddlqU8, high)?;
+    let row = computing(LaneOp::Products(Products::VpaddqU16));
+    back(alloc, U16, build::call_two(alloc, row, low, high, 0)?)
 }
