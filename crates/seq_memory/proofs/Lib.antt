@@ -1,2 +1,4 @@
 mod Moves
+mod Halves
+mod Masks
 mod Formed

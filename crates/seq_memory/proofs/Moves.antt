@@ -25,7 +25,7 @@ use Rattle.seq_core.specs.Actions.{sequence_in}
 use Rattle.seq_memory.specs.Plans.{one, two, reading, storing}
 use Rattle.seq_memory.specs.Claims.{table, DoesAsTheRow}
 
-split_and : (a b : Bool) → (a && b) ≡ true → (a ≡ true) × (b ≡ true)
+pub split_and : (a b : Bool) → (a && b) ≡ true → (a ≡ true) × (b ≡ true)
 split_and true b h = (refl, h)
 split_and false b h = absurd (grind (arith, h))
 
@@ -91,17 +91,17 @@ wrote_there_any memory (At block offset) bytes after h = there (at_distance offs
 abbrev loaded : List Block → Option (List ℕ) → Option (Option Value × List Block)
 loaded memory x = option_map (λ bytes. (Some (Value.R16 (put (replicate 16 0) 0 bytes)), memory)) x
 
-abbrev stored : Option (List Block) → Option (Option Value × List Block)
+abbrev pub stored : Option (List Block) → Option (Option Value × List Block)
 stored x = option_map (λ after. (None, after)) x
 
 abbrev alignment : Bool → ℕ
 alignment aligned = if aligned then 16 else 1
 
 -- the table's row as one of its form: nothing else of the row is looked at
-abbrev formed : Form → RowTable IntelOp
+abbrev pub formed : Form → RowTable IntelOp
 formed f = rows_of find_of (λ op. forms.signature_of f) (λ op. forms.range_of f) (λ op. forms.accesses_of f) (λ op. forms.access_of f) (λ op. forms.value_of f)
 
-by_form : (op : IntelOp) (f : Form) → form_of op ≡ f → (vs : List Value) (memory : List Block) → row_result table op vs memory ≡ row_result (formed f) op vs memory
+pub by_form : (op : IntelOp) (f : Form) → form_of op ≡ f → (vs : List Value) (memory : List Block) → row_result table op vs memory ≡ row_result (formed f) op vs memory
 by_form op f e vs memory = ap (λ g. row_result (formed g) op vs memory) e
 
 load_of : (op : IntelOp) (aligned : Bool) (p : Pointer) (memory : List Block) (x : Option (List ℕ)) → read_there memory p (alignment aligned) ≡ x → row_result (formed (form.Memory (row.Load Xmm aligned))) op (Value.At p ∷ []) memory ≡ loaded memory x
@@ -141,11 +141,11 @@ neon_store : (p : Pointer) (r : List ℕ) (memory : List Block) (x : Option (Lis
 neon_store p r memory None n h = rw (n, h) refl
 neon_store p r memory (Some m) n h = rw (n, h) refl
 
-apart : {A : Type 0} {B : Type 0} (x : Option A) (y : A) → x ≡ None → x ≡ Some y → B
+pub apart : {A : Type 0} {B : Type 0} (x : Option A) (y : A) → x ≡ None → x ≡ Some y → B
 apart x y n h = absurd (grind (arith, n, h))
 
 pub loads : (op : IntelOp) (aligned : Bool) → form_of op ≡ form.Memory (row.Load Xmm aligned) → DoesAsTheRow op (reading (one (of_move (Bytes Vld1qU8)) (Param 0)))
-loads op aligned e (Value.At p ∷ []) memory after o h = by_read (read_there memory p (alignment aligned)) refl
+loads op aligned e (Value.At p ∷ []) memory after o a h = by_read (read_there memory p (alignment aligned)) refl
   where
     at_any : (aligned : Bool) (bytes : List ℕ) → read_there memory p (alignment aligned) ≡ Some bytes → read_there memory p 1 ≡ Some bytes
     at_any true bytes k = read_there_any memory p bytes k
@@ -154,15 +154,15 @@ loads op aligned e (Value.At p ∷ []) memory after o h = by_read (read_there me
     by_read : (x : Option (List ℕ)) → read_there memory p (alignment aligned) ≡ x → sequence_in (reading (one (of_move (Bytes Vld1qU8)) (Param 0))) (Value.At p ∷ []) memory ≡ Some (o, after)
     by_read None k = apart _ (o, after) (intel_load op aligned e p memory None k) h
     by_read (Some bytes) k = neon_load p memory (Some bytes) (at_any aligned bytes k) ∙ sym (intel_load op aligned e p memory (Some bytes) k) ∙ h
-loads op aligned e [] memory after o h = apart (row_result table op [] memory) (o, after) (rw e refl) h
-loads op aligned e (Value.Int n ∷ vs) memory after o h = apart (row_result table op (Value.Int n ∷ vs) memory) (o, after) (rw e refl) h
-loads op aligned e (Value.R8 r ∷ vs) memory after o h = apart (row_result table op (Value.R8 r ∷ vs) memory) (o, after) (rw e refl) h
-loads op aligned e (Value.R16 r ∷ vs) memory after o h = apart (row_result table op (Value.R16 r ∷ vs) memory) (o, after) (rw e refl) h
-loads op aligned e (Value.R32 r ∷ vs) memory after o h = apart (row_result table op (Value.R32 r ∷ vs) memory) (o, after) (rw e refl) h
-loads op aligned e (Value.At p ∷ v ∷ vs) memory after o h = apart (row_result table op (Value.At p ∷ v ∷ vs) memory) (o, after) (rw e refl) h
+loads op aligned e [] memory after o k h = apart (row_result table op [] memory) (o, after) (rw e refl) h
+loads op aligned e (Value.Int n ∷ vs) memory after o k h = apart (row_result table op (Value.Int n ∷ vs) memory) (o, after) (rw e refl) h
+loads op aligned e (Value.R8 r ∷ vs) memory after o k h = apart (row_result table op (Value.R8 r ∷ vs) memory) (o, after) (rw e refl) h
+loads op aligned e (Value.R16 r ∷ vs) memory after o k h = apart (row_result table op (Value.R16 r ∷ vs) memory) (o, after) (rw e refl) h
+loads op aligned e (Value.R32 r ∷ vs) memory after o k h = apart (row_result table op (Value.R32 r ∷ vs) memory) (o, after) (rw e refl) h
+loads op aligned e (Value.At p ∷ v ∷ vs) memory after o k h = apart (row_result table op (Value.At p ∷ v ∷ vs) memory) (o, after) (rw e refl) h
 
 pub stores : (op : IntelOp) (aligned : Bool) → form_of op ≡ form.Memory (row.Store Xmm aligned) → DoesAsTheRow op (storing (two (of_move (Bytes Vst1qU8)) (Param 0) (Param 1)))
-stores op aligned e (Value.At p ∷ Value.R16 r ∷ []) memory after o h = by_size (nat_le 16 (length r)) refl
+stores op aligned e (Value.At p ∷ Value.R16 r ∷ []) memory after o a h = by_size (nat_le 16 (length r)) refl
   where
     at_any : (aligned : Bool) (m : List Block) → wrote_there memory p (alignment aligned) (take 16 (drop 0 r)) ≡ Some m → wrote_there memory p 1 (take 16 (drop 0 r)) ≡ Some m
     at_any true m k = wrote_there_any memory p (take 16 (drop 0 r)) m k
@@ -176,14 +176,14 @@ stores op aligned e (Value.At p ∷ Value.R16 r ∷ []) memory after o h = by_si
     by_size : (t : Bool) → nat_le 16 (length r) ≡ t → sequence_in (storing (two (of_move (Bytes Vst1qU8)) (Param 0) (Param 1))) (Value.At p ∷ Value.R16 r ∷ []) memory ≡ Some (o, after)
     by_size true n = by_write n (wrote_there memory p (alignment aligned) (take 16 (drop 0 r))) refl
     by_size false n = apart _ (o, after) (intel_short op aligned e p r memory n) h
-stores op aligned e [] memory after o h = apart (row_result table op [] memory) (o, after) (rw e refl) h
-stores op aligned e (Value.Int n ∷ vs) memory after o h = apart (row_result table op (Value.Int n ∷ vs) memory) (o, after) (rw e refl) h
-stores op aligned e (Value.R8 r ∷ vs) memory after o h = apart (row_result table op (Value.R8 r ∷ vs) memory) (o, after) (rw e refl) h
-stores op aligned e (Value.R16 r ∷ vs) memory after o h = apart (row_result table op (Value.R16 r ∷ vs) memory) (o, after) (rw e refl) h
-stores op aligned e (Value.R32 r ∷ vs) memory after o h = apart (row_result table op (Value.R32 r ∷ vs) memory) (o, after) (rw e refl) h
-stores op aligned e (Value.At p ∷ []) memory after o h = apart (row_result table op (Value.At p ∷ []) memory) (o, after) (rw e refl) h
-stores op aligned e (Value.At p ∷ Value.Int n ∷ vs) memory after o h = apart (row_result table op (Value.At p ∷ Value.Int n ∷ vs) memory) (o, after) (rw e refl) h
-stores op aligned e (Value.At p ∷ Value.R8 r ∷ vs) memory after o h = apart (row_result table op (Value.At p ∷ Value.R8 r ∷ vs) memory) (o, after) (rw e refl) h
-stores op aligned e (Value.At p ∷ Value.R32 r ∷ vs) memory after o h = apart (row_result table op (Value.At p ∷ Value.R32 r ∷ vs) memory) (o, after) (rw e refl) h
-stores op aligned e (Value.At p ∷ Value.At q ∷ vs) memory after o h = apart (row_result table op (Value.At p ∷ Value.At q ∷ vs) memory) (o, after) (rw e refl) h
-stores op aligned e (Value.At p ∷ Value.R16 r ∷ v ∷ vs) memory after o h = apart (row_result table op (Value.At p ∷ Value.R16 r ∷ v ∷ vs) memory) (o, after) (rw e refl) h
+stores op aligned e [] memory after o k h = apart (row_result table op [] memory) (o, after) (rw e refl) h
+stores op aligned e (Value.Int n ∷ vs) memory after o k h = apart (row_result table op (Value.Int n ∷ vs) memory) (o, after) (rw e refl) h
+stores op aligned e (Value.R8 r ∷ vs) memory after o k h = apart (row_result table op (Value.R8 r ∷ vs) memory) (o, after) (rw e refl) h
+stores op aligned e (Value.R16 r ∷ vs) memory after o k h = apart (row_result table op (Value.R16 r ∷ vs) memory) (o, after) (rw e refl) h
+stores op aligned e (Value.R32 r ∷ vs) memory after o k h = apart (row_result table op (Value.R32 r ∷ vs) memory) (o, after) (rw e refl) h
+stores op aligned e (Value.At p ∷ []) memory after o k h = apart (row_result table op (Value.At p ∷ []) memory) (o, after) (rw e refl) h
+stores op aligned e (Value.At p ∷ Value.Int n ∷ vs) memory after o k h = apart (row_result table op (Value.At p ∷ Value.Int n ∷ vs) memory) (o, after) (rw e refl) h
+stores op aligned e (Value.At p ∷ Value.R8 r ∷ vs) memory after o k h = apart (row_result table op (Value.At p ∷ Value.R8 r ∷ vs) memory) (o, after) (rw e refl) h
+stores op aligned e (Value.At p ∷ Value.R32 r ∷ vs) memory after o k h = apart (row_result table op (Value.At p ∷ Value.R32 r ∷ vs) memory) (o, after) (rw e refl) h
+stores op aligned e (Value.At p ∷ Value.At q ∷ vs) memory after o k h = apart (row_result table op (Value.At p ∷ Value.At q ∷ vs) memory) (o, after) (rw e refl) h
+stores op aligned e (Value.At p ∷ Value.R16 r ∷ v ∷ vs) memory after o k h = apart (row_result table op (Value.At p ∷ Value.R16 r ∷ v ∷ vs) memory) (o, after) (rw e refl) h

@@ -1,10 +1,14 @@
 -- What is claimed of the sequence of a row that touches memory.
-use Rattle.std.specs.Prelude.{◌≡◌, List, Option, Some}
+use Rattle.std.specs.Prelude.{◌≡◌, List, [], ◌∷◌, Option, Some}
+use Rattle.lane_core.specs.Register.{IsRegister}
 use Rattle.c_memory.specs.declared.blocks.Block.{Block}
 use Rattle.c_memory.specs.declared.value.Value.{Value}
 use Rattle.c_memory.specs.MeaningRows.{RowTable, rows_of, row_result}
 use Rattle.intel_table.specs.declared.IntelOp.{IntelOp}
-use Rattle.intel_table.specs.Rows.{find_of, signature_of, range_of, accesses_of, access_of, eval_of}
+use Rattle.intel_forms.specs.declared.forms.Form.{Form}
+use Rattle.intel_forms.specs.declared.forms.Form.TheVariants as form
+use Rattle.intel_forms.specs.declared.memory.Memory.TheVariants as row
+use Rattle.intel_table.specs.Rows.{find_of, form_of, signature_of, range_of, accesses_of, access_of, eval_of}
 use Rattle.seq_core.specs.Terms.{Sequence}
 use Rattle.seq_core.specs.Actions.{sequence_in}
 
@@ -12,7 +16,21 @@ use Rattle.seq_core.specs.Actions.{sequence_in}
 abbrev pub table : RowTable IntelOp
 table = rows_of find_of signature_of range_of accesses_of access_of eval_of
 
+-- each vector among the values is a register: its entries are bytes
+abbrev pub AreRegisters : List Value → Type 0
+AreRegisters [] = Unit {0}
+AreRegisters (Value.R8 r ∷ vs) = IsRegister 8 r × AreRegisters vs
+AreRegisters (Value.R16 r ∷ vs) = IsRegister 16 r × AreRegisters vs
+AreRegisters (Value.R32 r ∷ vs) = IsRegister 32 r × AreRegisters vs
+AreRegisters (v ∷ vs) = AreRegisters vs
+
+-- what is asked of the values of a row that takes a part of its register: that it is one
+abbrev pub Asked : Form → List Value → Type 0
+Asked (form.Memory row.StoreLow) vs = AreRegisters vs
+Asked (form.Memory (row.MaskLoad size width)) vs = AreRegisters vs
+Asked f vs = Unit {0}
+
 -- for all pointers and registers, and over every memory where a call of the row is defined, the sequence gives what the row gives, and
 -- leaves the memory that the row leaves
 abbrev pub DoesAsTheRow : IntelOp → Sequence → Type 0
-DoesAsTheRow op q = (vs : List Value) (memory after : List Block) (o : Option Value) → row_result table op vs memory ≡ Some (o, after) → sequence_in q vs memory ≡ Some (o, after)
+DoesAsTheRow op q = (vs : List Value) (memory after : List Block) (o : Option Value) → Asked (form_of op) vs → row_result table op vs memory ≡ Some (o, after) → sequence_in q vs memory ≡ Some (o, after)

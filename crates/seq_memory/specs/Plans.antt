@@ -1,18 +1,25 @@
--- The sequence of each row that moves a register at a pointer. The Neon rows ask for no alignment, so that an aligned row has the sequence of
+-- The sequence of each row that moves a register or its low half at a pointer. The Neon rows ask for no alignment, so that an aligned row has the sequence of
 -- one that isn't.
-use Rattle.std.specs.Prelude.{[], ◌∷◌, Bool, true, false, Option, Some, None}
+use Rattle.std.specs.Prelude.{ℕ, [], ◌∷◌, Bool, true, false, Option, Some, None, pos}
 use Rattle.lane_core.specs.declared.number.IntType.TheVariants as int
 use Rattle.lane_core.specs.declared.vector.Pointee.{Pointee}
+use Rattle.scalar_core.specs.Numbers.{num_of}
 use Rattle.c_tree.specs.declared.types.CType.{CType}
 use Rattle.intel_forms.specs.declared.forms.Form.{Form}
 use Rattle.intel_forms.specs.declared.forms.Form.TheVariants as form
 use Rattle.intel_forms.specs.declared.memory.Memory.TheVariants as row
+use Rattle.intel_lanes.specs.declared.lanes.Width.TheVariants.{Qword}
 use Rattle.intel_forms.specs.declared.sizes.Size.TheVariants.{Xmm}
-use Rattle.neon_move.specs.declared.MoveOp.TheVariants.{Bytes}
-use Rattle.neon_move.specs.declared.bytes.Bytes.TheVariants.{Vld1qU8, Vst1qU8}
+use Rattle.neon_lane.specs.declared.LaneOp.TheVariants.{Shifts}
+use Rattle.neon_lane.specs.declared.shifts.Shifts.TheVariants.{VshrqNU64}
+use Rattle.neon_move.specs.declared.MoveOp.TheVariants.{Bytes, Halves, Places, ToUnsigned}
+use Rattle.neon_move.specs.declared.bytes.Bytes.TheVariants.{VcreateU8, Vld1U8, Vld1qU8, Vst1U8, Vst1qU8}
+use Rattle.neon_move.specs.declared.halves.Halves.TheVariants.{VcombineU8, VgetLowU8}
+use Rattle.neon_move.specs.declared.places.Places.TheVariants.{VgetqLaneU64}
+use Rattle.neon_move.specs.declared.to_unsigned.ToUnsigned.TheVariants.{VreinterpretqU64U8}
 use Rattle.neon_table.specs.declared.NeonOp.{NeonOp}
-use Rattle.neon_table.specs.Rows.{of_move}
-use Rattle.seq_core.specs.Terms.{Term, Param, Call, NoTerms, More, Sequence}
+use Rattle.neon_table.specs.Rows.{of_lane, of_move}
+use Rattle.seq_core.specs.Terms.{Term, Param, Step, Int, Call, Choice, Shifted, NoTerms, More, Sequence}
 use Rattle.seq_core.specs.Formed.{vector}
 
 -- a call of one operand, and of two
@@ -33,7 +40,48 @@ reading t = record { params = pointer true ∷ []; steps = []; result = Some t }
 abbrev pub storing : Term → Sequence
 storing t = record { params = pointer false ∷ vector ∷ []; steps = t ∷ []; result = None }
 
+-- eight bytes that are 0
+abbrev pub no_bytes : Term
+no_bytes = one (of_move (Bytes VcreateU8)) (Int (num_of int.ULong (pos 0)))
+
+-- eight bytes at the pointer, zeros above; the low half is stored there
+abbrev pub low_loaded : Term
+low_loaded = two (of_move (Halves VcombineU8)) (one (of_move (Bytes Vld1U8)) (Param 0)) no_bytes
+
+abbrev pub low_stored : Term
+low_stored = two (of_move (Bytes Vst1U8)) (Param 0) (one (of_move (Halves VgetLowU8)) (Param 1))
+
+-- 1 in each qword of a register whose top bit is 1, else 0
+abbrev pub top_bits : Term → Term
+top_bits x = Call (of_lane (Shifts VshrqNU64)) (More (one (of_move (ToUnsigned VreinterpretqU64U8)) x) NoTerms) 63
+
+-- eight bytes at a pointer where that qword's top bit is 1, else zeros, and nothing is touched
+abbrev pub chosen_bytes : ℕ → Term → Term
+chosen_bytes k at = Choice (Call (of_move (Places VgetqLaneU64)) (More (Step 0) NoTerms) k) (one (of_move (Bytes Vld1U8)) at) no_bytes
+
+-- the pointer eight bytes on
+abbrev pub eight_on : Term
+eight_on = Shifted (Param 0) (Int (num_of int.Int (pos 8)))
+
+-- the qwords that the mask chooses
+abbrev pub masked_qwords : Sequence
+masked_qwords = record {
+  params = pointer true ∷ vector ∷ [];
+  steps = top_bits (Param 1) ∷ [];
+  result = Some (two (of_move (Halves VcombineU8)) (chosen_bytes 0 (Param 0)) (chosen_bytes 1 eight_on));
+}
+
 abbrev pub plan_of : Form → Option Sequence
 plan_of (form.Memory (row.Load Xmm aligned)) = Some (reading (one (of_move (Bytes Vld1qU8)) (Param 0)))
 plan_of (form.Memory (row.Store Xmm aligned)) = Some (storing (two (of_move (Bytes Vst1qU8)) (Param 0) (Param 1)))
+plan_of (form.Memory row.LoadLow) = Some (reading low_loaded)
+plan_of (form.Memory row.StoreLow) = Some (storing low_stored)
+plan_of (form.Memory (row.MaskLoad Xmm Qword)) = Some masked_qwords
 plan_of f = None
+
+-- the most rows that a sequence may call: one where a whole register moves, and one more for a half; 8 for each lane that is moved by itself
+abbrev pub ceiling_of : Form → ℕ
+ceiling_of (form.Memory row.LoadLow) = 2
+ceiling_of (form.Memory row.StoreLow) = 2
+ceiling_of (form.Memory (row.MaskLoad Xmm Qword)) = 16
+ceiling_of f = 1
