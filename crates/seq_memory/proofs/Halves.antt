@@ -25,8 +25,8 @@ use Rattle.intel_table.specs.Rows.{form_of}
 use Rattle.neon_elements.specs.Vectors.{combined, created, half}
 use Rattle.seq_core.specs.Actions.{sequence_in}
 use Rattle.seq_memory.specs.Plans.{reading, storing, low_loaded, low_stored}
-use Rattle.seq_memory.specs.Claims.{table, Asked, DoesAsTheRow}
-use Rattle.seq_memory.proofs.Moves.{split_and, stored, formed, by_form, apart}
+use Rattle.seq_memory.specs.Claims.{table, Asked}
+use Rattle.seq_memory.proofs.Moves.{Directly, split_and, stored, formed, by_form, apart}
 
 -- ---- what is read
 
@@ -103,7 +103,7 @@ neon_load : (p : Pointer) (memory : List Block) (x : Option (List ℕ)) → low_
 neon_load p memory None h = rw h refl
 neon_load p memory (Some r) h = rw h refl
 
-pub low_loads : (op : IntelOp) → form_of op ≡ form.Memory row.LoadLow → DoesAsTheRow op (reading low_loaded)
+pub low_loads : (op : IntelOp) → form_of op ≡ form.Memory row.LoadLow → Directly op (reading low_loaded)
 low_loads op e (Value.At p ∷ []) memory after o a h = by_read (low_read memory p) refl
   where
     by_read : (x : Option (List ℕ)) → low_read memory p ≡ x → sequence_in (reading low_loaded) (Value.At p ∷ []) memory ≡ Some (o, after)
@@ -122,7 +122,7 @@ low_loads op e (Value.At p ∷ v ∷ vs) memory after o k h = apart (row_result 
 
 -- ---- stores
 
-low_half : (r : List ℕ) → IsRegister 16 r → half 0 r ≡ take 8 r
+pub low_half : (r : List ℕ) → IsRegister 16 r → half 0 r ≡ take 8 r
 unfolding half
 low_half r h =
     build_same 8 1 (λ e. lane 8 r 0) (lane 8 (take 8 r)) (λ e l. let z : e ≡ 0 = omega (arith, l) in ap (λ v. v % 256 ^ 8) (sym (lane-take 8 8 r 0 (omega arith)) ∙ ap (lane 8 (take 8 r)) (sym z)))
@@ -148,9 +148,9 @@ neon_store : (p : Pointer) (r : List ℕ) (memory : List Block) (x : Option (Lis
 neon_store p r memory None n h = rw (n, h) refl
 neon_store p r memory (Some m) n h = rw (n, h) refl
 
-pub low_stores : (op : IntelOp) → form_of op ≡ form.Memory row.StoreLow → DoesAsTheRow op (storing low_stored)
+pub low_stores : (op : IntelOp) → form_of op ≡ form.Memory row.StoreLow → Directly op (storing low_stored)
 low_stores op e (Value.At p ∷ Value.R16 r ∷ []) memory after o a h =
-    let b : IsRegister 16 r × Unit {0} = subst (λ f. Asked f (Value.At p ∷ Value.R16 r ∷ [])) e a in
+    let b : IsRegister 16 r × Unit {0} = subst (λ f. Asked f 0 (Value.At p ∷ Value.R16 r ∷ [])) e a in
     neon_store p r memory (low_wrote memory p (take 8 r)) (half_long r) (ap (low_wrote memory p) (same_bytes r b.0))
     ∙ sym (by_form op (form.Memory row.StoreLow) e (Value.At p ∷ Value.R16 r ∷ []) memory ∙ store_of op p r memory (low_wrote memory p (take 8 r)) (long r b.0) refl)
     ∙ h

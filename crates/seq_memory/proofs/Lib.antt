@@ -1,4 +1,5 @@
 mod Moves
 mod Halves
 mod Masks
+mod Gathers
 mod Formed

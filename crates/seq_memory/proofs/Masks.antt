@@ -39,8 +39,8 @@ use Rattle.neon_elements.specs.Elements.{integer_of}
 use Rattle.neon_elements.specs.Vectors.{combined, created, shifted_right}
 use Rattle.seq_core.specs.Actions.{sequence_in}
 use Rattle.seq_memory.specs.Plans.{masked_qwords}
-use Rattle.seq_memory.specs.Claims.{table, Asked, DoesAsTheRow}
-use Rattle.seq_memory.proofs.Moves.{split_and, formed, by_form, apart}
+use Rattle.seq_memory.specs.Claims.{table, Asked}
+use Rattle.seq_memory.proofs.Moves.{Directly, split_and, formed, by_form, apart}
 use Rattle.seq_memory.proofs.Halves.{low_read, eight_read, read_length, low_lane, none, none_is, given_by}
 
 -- ---- which lanes are chosen
@@ -192,13 +192,13 @@ abbrev gave : List ℕ → List Block → Option (Option Value × List Block)
 gave r memory = Some (Some (Value.R16 r), memory)
 
 -- the rows' constants
-constant : (n : ℕ) → n < 64 → (num_of int.Int (pos n)).value ≡ pos n
+pub constant : (n : ℕ) → n < 64 → (num_of int.Int (pos n)).value ≡ pos n
 constant n h = num_of_in_range int.Int (pos n) (omega (arith, ints, h))
 
-c0 : (num_of int.Int (pos 0)).value ≡ pos 0
+pub c0 : (num_of int.Int (pos 0)).value ≡ pos 0
 c0 = constant 0 (omega arith)
 
-c1 : (num_of int.Int (pos 1)).value ≡ pos 1
+pub c1 : (num_of int.Int (pos 1)).value ≡ pos 1
 c1 = constant 1 (omega arith)
 
 c63 : (num_of int.Int (pos 63)).value ≡ pos 63
@@ -249,11 +249,11 @@ neon_both : (p q : Pointer) (mask : List ℕ) (memory : List Block) (low bytes :
     → neon_call p mask memory ≡ gave (combined (put eight_zeros 0 low) (put eight_zeros 0 bytes)) memory
 neon_both p q mask memory low bytes c d h s k = rw (c63, c0, c, h, c1, d, s, k) refl
 
-pub masked : (op : IntelOp) → form_of op ≡ mask_form → DoesAsTheRow op masked_qwords
+pub masked : (op : IntelOp) → form_of op ≡ mask_form → Directly op masked_qwords
 masked op e (Value.At p ∷ Value.R16 mask ∷ []) memory after o a h = by_choice (is_chosen 8 mask 0) (is_chosen 8 mask 1) refl refl
   where
     asked : IsRegister 16 mask × Unit {0}
-    asked = subst (λ f. Asked f (Value.At p ∷ Value.R16 mask ∷ [])) e a
+    asked = subst (λ f. Asked f 0 (Value.At p ∷ Value.R16 mask ∷ [])) e a
 
     first : (t : Bool) → is_chosen 8 mask 0 ≡ t → is_true (bit_number mask 0) ≡ t
     first t c = same_choice mask 0 asked.0 (omega arith) ∙ c

@@ -20,10 +20,14 @@ use Rattle.intel_table.specs.Rows.{find_of, form_of}
 use Rattle.neon_move.specs.declared.MoveOp.TheVariants.{Bytes}
 use Rattle.neon_move.specs.declared.bytes.Bytes.TheVariants.{Vld1qU8, Vst1qU8}
 use Rattle.neon_table.specs.Rows.{of_move}
-use Rattle.seq_core.specs.Terms.{Param}
+use Rattle.seq_core.specs.Terms.{Param, Sequence}
 use Rattle.seq_core.specs.Actions.{sequence_in}
 use Rattle.seq_memory.specs.Plans.{one, two, reading, storing}
-use Rattle.seq_memory.specs.Claims.{table, DoesAsTheRow}
+use Rattle.seq_memory.specs.Claims.{table, Asked}
+
+-- the claim for a row without a constant
+abbrev pub Directly : IntelOp → Sequence → Type 0
+Directly op q = (vs : List Value) (memory after : List Block) (o : Option Value) → Asked (form_of op) 0 vs → row_result table op vs memory ≡ Some (o, after) → sequence_in q vs memory ≡ Some (o, after)
 
 pub split_and : (a b : Bool) → (a && b) ≡ true → (a ≡ true) × (b ≡ true)
 split_and true b h = (refl, h)
@@ -144,7 +148,7 @@ neon_store p r memory (Some m) n h = rw (n, h) refl
 pub apart : {A : Type 0} {B : Type 0} (x : Option A) (y : A) → x ≡ None → x ≡ Some y → B
 apart x y n h = absurd (grind (arith, n, h))
 
-pub loads : (op : IntelOp) (aligned : Bool) → form_of op ≡ form.Memory (row.Load Xmm aligned) → DoesAsTheRow op (reading (one (of_move (Bytes Vld1qU8)) (Param 0)))
+pub loads : (op : IntelOp) (aligned : Bool) → form_of op ≡ form.Memory (row.Load Xmm aligned) → Directly op (reading (one (of_move (Bytes Vld1qU8)) (Param 0)))
 loads op aligned e (Value.At p ∷ []) memory after o a h = by_read (read_there memory p (alignment aligned)) refl
   where
     at_any : (aligned : Bool) (bytes : List ℕ) → read_there memory p (alignment aligned) ≡ Some bytes → read_there memory p 1 ≡ Some bytes
@@ -161,7 +165,7 @@ loads op aligned e (Value.R16 r ∷ vs) memory after o k h = apart (row_result t
 loads op aligned e (Value.R32 r ∷ vs) memory after o k h = apart (row_result table op (Value.R32 r ∷ vs) memory) (o, after) (rw e refl) h
 loads op aligned e (Value.At p ∷ v ∷ vs) memory after o k h = apart (row_result table op (Value.At p ∷ v ∷ vs) memory) (o, after) (rw e refl) h
 
-pub stores : (op : IntelOp) (aligned : Bool) → form_of op ≡ form.Memory (row.Store Xmm aligned) → DoesAsTheRow op (storing (two (of_move (Bytes Vst1qU8)) (Param 0) (Param 1)))
+pub stores : (op : IntelOp) (aligned : Bool) → form_of op ≡ form.Memory (row.Store Xmm aligned) → Directly op (storing (two (of_move (Bytes Vst1qU8)) (Param 0) (Param 1)))
 stores op aligned e (Value.At p ∷ Value.R16 r ∷ []) memory after o a h = by_size (nat_le 16 (length r)) refl
   where
     at_any : (aligned : Bool) (m : List Block) → wrote_there memory p (alignment aligned) (take 16 (drop 0 r)) ≡ Some m → wrote_there memory p 1 (take 16 (drop 0 r)) ≡ Some m

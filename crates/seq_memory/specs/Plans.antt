@@ -1,6 +1,6 @@
 -- The sequence of each row that moves a register or its low half at a pointer. The Neon rows ask for no alignment, so that an aligned row has the sequence of
 -- one that isn't.
-use Rattle.std.specs.Prelude.{ℕ, [], ◌∷◌, Bool, true, false, Option, Some, None, pos}
+use Rattle.std.specs.Prelude.{ℕ, ◌==◌, [], ◌∷◌, if◌then◌else◌, Bool, true, false, Option, Some, None, pos}
 use Rattle.lane_core.specs.declared.number.IntType.TheVariants as int
 use Rattle.lane_core.specs.declared.vector.Pointee.{Pointee}
 use Rattle.scalar_core.specs.Numbers.{num_of}
@@ -8,14 +8,17 @@ use Rattle.c_tree.specs.declared.types.CType.{CType}
 use Rattle.intel_forms.specs.declared.forms.Form.{Form}
 use Rattle.intel_forms.specs.declared.forms.Form.TheVariants as form
 use Rattle.intel_forms.specs.declared.memory.Memory.TheVariants as row
+use Rattle.intel_forms.specs.declared.memory.Indexing.TheVariants.{QwordsByDwords}
 use Rattle.intel_lanes.specs.declared.lanes.Width.TheVariants.{Qword}
 use Rattle.intel_forms.specs.declared.sizes.Size.TheVariants.{Xmm}
 use Rattle.neon_lane.specs.declared.LaneOp.TheVariants.{Shifts}
-use Rattle.neon_lane.specs.declared.shifts.Shifts.TheVariants.{VshrqNU64}
-use Rattle.neon_move.specs.declared.MoveOp.TheVariants.{Bytes, Halves, Places, ToUnsigned}
+use Rattle.neon_lane.specs.declared.shifts.Shifts.TheVariants.{VshlqNS64, VshrqNU64}
+use Rattle.neon_move.specs.declared.MoveOp.TheVariants.{Bytes, Halves, Places, ToSigned, ToUnsigned, Widened}
 use Rattle.neon_move.specs.declared.bytes.Bytes.TheVariants.{VcreateU8, Vld1U8, Vld1qU8, Vst1U8, Vst1qU8}
-use Rattle.neon_move.specs.declared.halves.Halves.TheVariants.{VcombineU8, VgetLowU8}
-use Rattle.neon_move.specs.declared.places.Places.TheVariants.{VgetqLaneU64}
+use Rattle.neon_move.specs.declared.halves.Halves.TheVariants.{VcombineU8, VgetLowS32, VgetLowU8}
+use Rattle.neon_move.specs.declared.places.Places.TheVariants.{VgetqLaneS64, VgetqLaneU64}
+use Rattle.neon_move.specs.declared.to_signed.ToSigned.TheVariants.{VreinterpretqS32U8}
+use Rattle.neon_move.specs.declared.widened.Widened.TheVariants.{VmovlS32}
 use Rattle.neon_move.specs.declared.to_unsigned.ToUnsigned.TheVariants.{VreinterpretqU64U8}
 use Rattle.neon_table.specs.declared.NeonOp.{NeonOp}
 use Rattle.neon_table.specs.Rows.{of_lane, of_move}
@@ -71,17 +74,40 @@ masked_qwords = record {
   result = Some (two (of_move (Halves VcombineU8)) (chosen_bytes 0 (Param 0)) (chosen_bytes 1 eight_on));
 }
 
-abbrev pub plan_of : Form → Option Sequence
-plan_of (form.Memory (row.Load Xmm aligned)) = Some (reading (one (of_move (Bytes Vld1qU8)) (Param 0)))
-plan_of (form.Memory (row.Store Xmm aligned)) = Some (storing (two (of_move (Bytes Vst1qU8)) (Param 0) (Param 1)))
-plan_of (form.Memory row.LoadLow) = Some (reading low_loaded)
-plan_of (form.Memory row.StoreLow) = Some (storing low_stored)
-plan_of (form.Memory (row.MaskLoad Xmm Qword)) = Some masked_qwords
-plan_of f = None
+-- the power of two that a scale is
+abbrev pub power_of : ℕ → ℕ
+power_of scale = if scale == 8 then 3 else (if scale == 4 then 2 else (if scale == 2 then 1 else 0))
+
+-- the two low dwords of the indices, as qwords, times the scale
+abbrev pub distances : ℕ → Term
+distances scale = Call (of_lane (Shifts VshlqNS64)) (More (one (of_move (Widened VmovlS32)) (one (of_move (Halves VgetLowS32)) (one (of_move (ToSigned VreinterpretqS32U8)) (Param 1)))) NoTerms) (power_of scale)
+
+-- eight bytes that far on
+abbrev pub gathered : ℕ → Term
+gathered k = one (of_move (Bytes Vld1U8)) (Shifted (Param 0) (Call (of_move (Places VgetqLaneS64)) (More (Step 0) NoTerms) k))
+
+-- two qwords by dwords
+abbrev pub gathered_qwords : ℕ → Sequence
+gathered_qwords scale = record {
+  params = pointer true ∷ vector ∷ [];
+  steps = distances scale ∷ [];
+  result = Some (two (of_move (Halves VcombineU8)) (gathered 0) (gathered 1));
+}
+
+-- of a row with that constant, 0 for a row without one
+abbrev pub plan_of : Form → ℕ → Option Sequence
+plan_of (form.Memory (row.Load Xmm aligned)) imm = Some (reading (one (of_move (Bytes Vld1qU8)) (Param 0)))
+plan_of (form.Memory (row.Store Xmm aligned)) imm = Some (storing (two (of_move (Bytes Vst1qU8)) (Param 0) (Param 1)))
+plan_of (form.Memory row.LoadLow) imm = Some (reading low_loaded)
+plan_of (form.Memory row.StoreLow) imm = Some (storing low_stored)
+plan_of (form.Memory (row.MaskLoad Xmm Qword)) imm = Some masked_qwords
+plan_of (form.Memory (row.Gather Xmm QwordsByDwords)) imm = Some (gathered_qwords imm)
+plan_of f imm = None
 
 -- the most rows that a sequence may call: one where a whole register moves, and one more for a half; 8 for each lane that is moved by itself
 abbrev pub ceiling_of : Form → ℕ
 ceiling_of (form.Memory row.LoadLow) = 2
 ceiling_of (form.Memory row.StoreLow) = 2
 ceiling_of (form.Memory (row.MaskLoad Xmm Qword)) = 16
+ceiling_of (form.Memory (row.Gather Xmm QwordsByDwords)) = 16
 ceiling_of f = 1

@@ -1,6 +1,6 @@
 //! The sequence of each row.
 
-ghost use Rattle.std.specs.Prelude.{◌≡◌, ◌≤◌, IfOk, IsSome, Some, length, is_some, true, false};
+ghost use Rattle.std.specs.Prelude.{◌≡◌, ◌≤◌, ℕ, IfOk, IsSome, Some, length, is_some, true, false};
 ghost use Rattle.lane_core.specs.IntRange.{InRange};
 ghost use Rattle.scalar_core.specs.Numbers.{num_of};
 ghost use Rattle.intel_forms.specs.Forms.{is_scalar};
@@ -13,10 +13,10 @@ ghost use Rattle.seq_core.specs.View.{view, view_seq};
 ghost use Rattle.seq_core.specs.Called.{plain, rows_called};
 ghost use Rattle.seq_core.specs.Formed.{WellFormed};
 ghost use Rattle.seq_memory.specs.Claims.{DoesAsTheRow};
-ghost use Rattle.seq_memory.specs.Plans.{one, two, pointer, reading, storing, no_bytes, low_loaded, low_stored, top_bits, chosen_bytes, eight_on, masked_qwords, plan_of, ceiling_of};
+ghost use Rattle.seq_memory.specs.Plans.{one, two, pointer, reading, storing, no_bytes, low_loaded, low_stored, top_bits, chosen_bytes, eight_on, masked_qwords, power_of, distances, gathered, gathered_qwords, plan_of, ceiling_of};
 
 use c_tree::{CType, Pointee};
-use intel_forms::memory::Memory;
+use intel_forms::memory::{Indexing, Memory};
 use intel_forms::{Form, Size};
 use intel_lanes::lanes::Width;
 use intel_table::IntelOp;
@@ -28,7 +28,9 @@ use neon_move::MoveOp;
 use neon_move::bytes::Bytes;
 use neon_move::halves::Halves;
 use neon_move::places::Places;
+use neon_move::to_signed::ToSigned;
 use neon_move::to_unsigned::ToUnsigned;
+use neon_move::widened::Widened;
 use neon_table::NeonOp;
 use seq_core::build::{call_one, call_two, choice, shifted};
 use seq_core::{Seq, Term};
@@ -76,10 +78,10 @@ fn storing(alloc: Global, t: Term) -> Result<Seq, AllocError>
     })
 }
 
-/// Whether the row has a sequence here: loads and stores of 16 bytes, aligned or not, and of the low 8 bytes, and loads of the qwords that a mask of
-/// 16 bytes chooses.
+/// Whether the row has a sequence here: loads and stores of 16 bytes, aligned or not, and of the low 8 bytes, loads of the qwords that a mask of 16 bytes
+/// chooses, and gathers of two qwords by dwords.
 pub fn is_built(op: IntelOp) -> bool
-    ensures { result ≡ is_some (plan_of (form_of op)) }
+    ensures { (imm : ℕ) → result ≡ is_some (plan_of (form_of op) imm) }
 {
     match intel_table::form(op) {
         Form::Memory(row) => matches!(
@@ -89,6 +91,7 @@ pub fn is_built(op: IntelOp) -> bool
                 | Memory::LoadLow
                 | Memory::StoreLow
                 | Memory::MaskLoad(Size::Xmm, Width::Qword)
+                | Memory::Gather(Size::Xmm, Indexing::QwordsByDwords)
         ),
         _ => false,
     }
@@ -195,30 +198,87 @@ fn masked_qwords(alloc: Global) -> Result<Seq, AllocError>
     })
 }
 
+/// The power of two that a scale is.
+fn power_of(scale: u16) -> u16
+    ensures { result ≡ power_of scale }
+{
+    match scale {
+        8 => 3,
+        4 => 2,
+        2 => 1,
+        _ => 0,
+    }
+}
+
+/// The two low dwords of the indices, as qwords, times the scale.
+fn distances(alloc: Global, scale: u16) -> Result<Term, AllocError>
+    ensures { IfOk result (λ t. view t ≡ distances scale) }
+{
+    let row = neon_table::moving(MoveOp::ToSigned(ToSigned::VreinterpretqS32U8));
+    let dwords = call_one(alloc, row, Term::Param(1), 0)?;
+    let row = neon_table::moving(MoveOp::Halves(Halves::VgetLowS32));
+    let dwords = call_one(alloc, row, dwords, 0)?;
+    let row = neon_table::moving(MoveOp::Widened(Widened::VmovlS32));
+    let qwords = call_one(alloc, row, dwords, 0)?;
+    let row = neon_table::computing(LaneOp::Shifts(Shifts::VshlqNS64));
+    call_one(alloc, row, qwords, power_of(scale))
+}
+
+/// Eight bytes that far on.
+fn gathered(alloc: Global, k: u16) -> Result<Term, AllocError>
+    ensures { IfOk result (λ t. view t ≡ gathered k) }
+{
+    let row = neon_table::moving(MoveOp::Places(Places::VgetqLaneS64));
+    let distance = call_one(alloc, row, Term::Step(0), k)?;
+    let at = shifted(alloc, Term::Param(0), distance)?;
+    call_one(alloc, of_bytes(Bytes::Vld1U8), at, 0)
+}
+
+/// Two qwords by dwords.
+fn gathered_qwords(alloc: Global, scale: u16) -> Result<Seq, AllocError>
+    ensures { IfOk result (λ s. view_seq s ≡ gathered_qwords scale) }
+{
+    let mut params = Vec::new(alloc);
+    params.push(pointer(true))?;
+    params.push(CType::Neon(NeonLane::U8, true))?;
+    let mut steps = Vec::new(alloc);
+    steps.push(distances(alloc, scale)?)?;
+    let low = gathered(alloc, 0)?;
+    let high = gathered(alloc, 1)?;
+    let row = neon_table::moving(MoveOp::Halves(Halves::VcombineU8));
+    let both = call_two(alloc, row, low, high, 0)?;
+    Ok(Seq {
+        params,
+        steps,
+        result: Some(both),
+    })
+}
+
 /// The sequence of a form. No form but those that have one gets to the last arm.
-fn of_form(alloc: Global, form: Form) -> Result<Seq, AllocError>
-    requires { IsSome (plan_of form) }
-    ensures { IfOk result (λ s. plan_of form ≡ Some (view_seq s)) }
+fn of_form(alloc: Global, form: Form, imm: u16) -> Result<Seq, AllocError>
+    requires { IsSome (plan_of form imm) }
+    ensures { IfOk result (λ s. plan_of form imm ≡ Some (view_seq s)) }
 {
     match form {
         Form::Memory(Memory::Load(_, _)) => reading(alloc, load(alloc)?),
         Form::Memory(Memory::LoadLow) => reading(alloc, low_loaded(alloc)?),
         Form::Memory(Memory::MaskLoad(_, _)) => masked_qwords(alloc),
+        Form::Memory(Memory::Gather(_, _)) => gathered_qwords(alloc, imm),
         Form::Memory(Memory::StoreLow) => storing(alloc, low_stored(alloc)?),
         _ => storing(alloc, store(alloc)?),
     }
 }
 
-/// The sequence of a row that `is_built` names. Its parameters are the row's: a pointer to bytes, and a register for a row that stores. It does
-/// what the row does wherever the row is defined; an aligned row's asks for no alignment. These rows have no immediate: it is 0. The only error
-/// is want of memory.
-pub fn plan(alloc: Global, op: IntelOp, _imm: u16) -> Result<Seq, AllocError>
-    requires { IsSome (plan_of (form_of op)) }
-    ensures sequence { IfOk result (λ s. plan_of (form_of op) ≡ Some (view_seq s)) }
-    ensures does { IfOk result (λ s. DoesAsTheRow op (view_seq s)) }
+/// The sequence of a row that `is_built` names. Its parameters are the row's but the constant, which is part of it: a pointer to bytes, and a register
+/// where the row takes one. It does what the row does wherever the row is defined; an aligned row's asks for no alignment. The constant is a
+/// gather's scale, 1, 2, 4 or 8, and 0 for a row without one. The only error is want of memory.
+pub fn plan(alloc: Global, op: IntelOp, imm: u16) -> Result<Seq, AllocError>
+    requires { IsSome (plan_of (form_of op) imm) }
+    ensures sequence { IfOk result (λ s. plan_of (form_of op) imm ≡ Some (view_seq s)) }
+    ensures does { IfOk result (λ s. DoesAsTheRow op imm (view_seq s)) }
     ensures formed { IfOk result (λ s. WellFormed (view_seq s)) }
     ensures ceiling { IfOk result (λ s. length (rows_called (view_seq s)) ≤ ceiling_of (form_of op)) }
     ensures unmarked { is_scalar (form_of op) ≡ false → IfOk result (λ s. plain (view_seq s) ≡ true) }
 {
-    of_form(alloc, intel_table::form(op))
+    of_form(alloc, intel_table::form(op), imm)
 }
