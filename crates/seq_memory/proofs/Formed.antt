@@ -26,12 +26,13 @@ use Rattle.seq_core.specs.Actions.{sequence_in}
 use Rattle.seq_core.specs.Terms.{Sequence, Param}
 use Rattle.seq_core.specs.Called.{plain, rows_called}
 use Rattle.seq_core.specs.Formed.{WellFormed}
-use Rattle.seq_memory.specs.Plans.{one, two, reading, storing, low_loaded, low_stored, masked_qwords, gathered_qwords, power_of, plan_of, ceiling_of}
+use Rattle.seq_memory.specs.Plans.{one, two, reading, storing, low_loaded, low_stored, masked_qwords, gathered_qwords, merged_qwords, power_of, plan_of, ceiling_of}
 use Rattle.seq_memory.specs.Claims.{Asked, operands, DoesAsTheRow}
 use Rattle.seq_memory.proofs.Moves.{Directly, loads, stores}
 use Rattle.seq_memory.proofs.Halves.{low_loads, low_stores}
 use Rattle.seq_memory.proofs.Masks.{masked}
 use Rattle.seq_memory.proofs.Gathers.{gathers}
+use Rattle.seq_memory.proofs.Merges.{merges}
 
 same : {q r : Sequence} → Some q ≡ Some r → q ≡ r
 same e = cc
@@ -58,6 +59,7 @@ does op (form.Memory row.LoadLow) imm e q h = subst (DoesAsTheRow op imm) (same 
 does op (form.Memory row.StoreLow) imm e q h = subst (DoesAsTheRow op imm) (same h) (direct op (form.Memory row.StoreLow) imm (storing low_stored) e (λ vs x. x) (pointer_and_register M128 false) (low_stores op e))
 does op (form.Memory (row.MaskLoad Xmm Qword)) imm e q h = subst (DoesAsTheRow op imm) (same h) (direct op (form.Memory (row.MaskLoad Xmm Qword)) imm masked_qwords e (λ vs x. x) (pointer_and_register (Pointee.Int (lane_type Qword)) true) (masked op e))
 does op (form.Memory (row.Gather Xmm QwordsByDwords)) imm e q h = subst (DoesAsTheRow op imm) (same h) (gathers op imm e)
+does op (form.Memory (row.MaskGather Xmm QwordsByDwords)) imm e q h = subst (DoesAsTheRow op imm) (same h) (merges op imm e)
 does op _ imm e q h = absurd (grind (arith, h))
 
 -- it calls so many rows at most, and has no scalar parts where the row isn't scalar by nature
@@ -90,6 +92,9 @@ power_below s = by_eight (s == 8)
 gathers_fine : (imm : ℕ) → Fine (form.Memory (row.Gather Xmm QwordsByDwords)) (gathered_qwords imm)
 gathers_fine imm = let l = power_below imm in search (rules, arith, l) depth 24
 
+merges_fine : (imm : ℕ) → Fine (form.Memory (row.MaskGather Xmm QwordsByDwords)) (merged_qwords imm)
+merges_fine imm = let l = power_below imm in search (rules, arith, l) depth 24
+
 pub fine : (f : Form) (imm : ℕ) (q : Sequence) → plan_of f imm ≡ Some q → Fine f q
 fine (form.Memory (row.Load Xmm aligned)) imm q h = subst (Fine (form.Memory (row.Load Xmm aligned))) (same h) (search (rules, arith) depth 12)
 fine (form.Memory (row.Store Xmm aligned)) imm q h = subst (Fine (form.Memory (row.Store Xmm aligned))) (same h) (search (rules, arith) depth 12)
@@ -97,4 +102,5 @@ fine (form.Memory row.LoadLow) imm q h = subst (Fine (form.Memory row.LoadLow)) 
 fine (form.Memory row.StoreLow) imm q h = subst (Fine (form.Memory row.StoreLow)) (same h) (search (rules, arith) depth 16)
 fine (form.Memory (row.MaskLoad Xmm Qword)) imm q h = subst (Fine (form.Memory (row.MaskLoad Xmm Qword))) (same h) masked_fine
 fine (form.Memory (row.Gather Xmm QwordsByDwords)) imm q h = subst (Fine (form.Memory (row.Gather Xmm QwordsByDwords))) (same h) (gathers_fine imm)
+fine (form.Memory (row.MaskGather Xmm QwordsByDwords)) imm q h = subst (Fine (form.Memory (row.MaskGather Xmm QwordsByDwords))) (same h) (merges_fine imm)
 fine _ imm q h = absurd (grind (arith, h))

@@ -183,7 +183,7 @@ same_value read lo hi e f = build_same 8 2 (λ i. if i == 0 then lane 8 lo 0 els
     each (suc zero) l = ap (λ v. v % 256 ^ 8) f
     each (suc (suc n)) l = absurd (omega (arith, l))
 
-stepped_so : (memory : List Block) (p q : Pointer) (n : Num) (z : ℤ) → n.value ≡ z → moved memory p z ≡ Some q → stepped memory p (Some 1) n.value ≡ Some (Value.At q)
+pub stepped_so : (memory : List Block) (p q : Pointer) (n : Num) (z : ℤ) → n.value ≡ z → moved memory p z ≡ Some q → stepped memory p (Some 1) n.value ≡ Some (Value.At q)
 stepped_so memory p q n z e m = ap (λ d. option_map Value.At (moved memory p (d *ℤ pos 1))) e ∙ ap (λ d. option_map Value.At (moved memory p d)) (let o : z *ℤ pos 1 ≡ z = omega (arith, ints) in o) ∙ ap (option_map Value.At) m
 
 -- a scale is one of four
@@ -203,7 +203,7 @@ numbers_4 = (number_4, constant 2 (omega arith), refl, refl)
 numbers_8 : Numbers 8
 numbers_8 = (number_8, constant 3 (omega arith), refl, refl)
 
-numbers : (scale : ℕ) → is_in_range Scale scale ≡ true → Numbers scale
+pub numbers : (scale : ℕ) → is_in_range Scale scale ≡ true → Numbers scale
 numbers scale r = by_one (scale == 1) refl
   where
     by_eight : (t : Bool) → (scale == 8) ≡ t → (scale == 1) ≡ false → (scale == 2) ≡ false → (scale == 4) ≡ false → Numbers scale

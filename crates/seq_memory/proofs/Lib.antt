@@ -2,4 +2,5 @@ mod Moves
 mod Halves
 mod Masks
 mod Gathers
+mod Merges
 mod Formed

@@ -188,7 +188,7 @@ intel_call op p mask memory = row_result (formed mask_form) op (Value.At p ∷ V
 abbrev neon_call : Pointer → List ℕ → List Block → Option (Option Value × List Block)
 neon_call p mask memory = sequence_in masked_qwords (Value.At p ∷ Value.R16 mask ∷ []) memory
 
-abbrev gave : List ℕ → List Block → Option (Option Value × List Block)
+abbrev pub gave : List ℕ → List Block → Option (Option Value × List Block)
 gave r memory = Some (Some (Value.R16 r), memory)
 
 -- the rows' constants
@@ -201,7 +201,7 @@ c0 = constant 0 (omega arith)
 pub c1 : (num_of int.Int (pos 1)).value ≡ pos 1
 c1 = constant 1 (omega arith)
 
-c63 : (num_of int.Int (pos 63)).value ≡ pos 63
+pub c63 : (num_of int.Int (pos 63)).value ≡ pos 63
 c63 = constant 63 (omega arith)
 
 -- neither lane

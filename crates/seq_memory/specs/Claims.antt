@@ -33,6 +33,7 @@ abbrev pub Asked : Form → ℕ → List Value → Type 0
 Asked (form.Memory row.StoreLow) imm vs = AreRegisters vs
 Asked (form.Memory (row.MaskLoad size width)) imm vs = AreRegisters vs
 Asked (form.Memory (row.Gather size indexing)) imm vs = AreRegisters vs × (immediate (params_of (forms.signature_of (form.Memory (row.Gather size indexing)))) vs ≡ imm)
+Asked (form.Memory (row.MaskGather size indexing)) imm vs = AreRegisters vs × (immediate (params_of (forms.signature_of (form.Memory (row.MaskGather size indexing)))) vs ≡ imm)
 Asked f imm vs = Unit {0}
 
 -- the values but the constant: a sequence takes these

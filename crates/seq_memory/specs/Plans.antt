@@ -15,7 +15,8 @@ use Rattle.neon_lane.specs.declared.LaneOp.TheVariants.{Shifts}
 use Rattle.neon_lane.specs.declared.shifts.Shifts.TheVariants.{VshlqNS64, VshrqNU64}
 use Rattle.neon_move.specs.declared.MoveOp.TheVariants.{Bytes, Halves, Places, ToSigned, ToUnsigned, Widened}
 use Rattle.neon_move.specs.declared.bytes.Bytes.TheVariants.{VcreateU8, Vld1U8, Vld1qU8, Vst1U8, Vst1qU8}
-use Rattle.neon_move.specs.declared.halves.Halves.TheVariants.{VcombineU8, VgetLowS32, VgetLowU8}
+use Rattle.neon_move.specs.declared.halves.Halves as halves
+use Rattle.neon_move.specs.declared.halves.Halves.TheVariants.{VcombineU8, VgetHighU8, VgetLowS32, VgetLowU8}
 use Rattle.neon_move.specs.declared.places.Places.TheVariants.{VgetqLaneS64, VgetqLaneU64}
 use Rattle.neon_move.specs.declared.to_signed.ToSigned.TheVariants.{VreinterpretqS32U8}
 use Rattle.neon_move.specs.declared.widened.Widened.TheVariants.{VmovlS32}
@@ -79,19 +80,30 @@ abbrev pub power_of : ℕ → ℕ
 power_of scale = if scale == 8 then 3 else (if scale == 4 then 2 else (if scale == 2 then 1 else 0))
 
 -- the two low dwords of the indices, as qwords, times the scale
-abbrev pub distances : ℕ → Term
-distances scale = Call (of_lane (Shifts VshlqNS64)) (More (one (of_move (Widened VmovlS32)) (one (of_move (Halves VgetLowS32)) (one (of_move (ToSigned VreinterpretqS32U8)) (Param 1)))) NoTerms) (power_of scale)
+abbrev pub distances : Term → ℕ → Term
+distances indices scale = Call (of_lane (Shifts VshlqNS64)) (More (one (of_move (Widened VmovlS32)) (one (of_move (Halves VgetLowS32)) (one (of_move (ToSigned VreinterpretqS32U8)) indices))) NoTerms) (power_of scale)
 
 -- eight bytes that far on
-abbrev pub gathered : ℕ → Term
-gathered k = one (of_move (Bytes Vld1U8)) (Shifted (Param 0) (Call (of_move (Places VgetqLaneS64)) (More (Step 0) NoTerms) k))
+abbrev pub gathered : Term → ℕ → Term
+gathered p k = one (of_move (Bytes Vld1U8)) (Shifted p (Call (of_move (Places VgetqLaneS64)) (More (Step 0) NoTerms) k))
 
 -- two qwords by dwords
 abbrev pub gathered_qwords : ℕ → Sequence
 gathered_qwords scale = record {
   params = pointer true ∷ vector ∷ [];
-  steps = distances scale ∷ [];
-  result = Some (two (of_move (Halves VcombineU8)) (gathered 0) (gathered 1));
+  steps = distances (Param 1) scale ∷ [];
+  result = Some (two (of_move (Halves VcombineU8)) (gathered (Param 0) 0) (gathered (Param 0) 1));
+}
+
+-- where that qword of the mask has its top bit, else that half of the first operand
+abbrev pub merged_bytes : ℕ → halves.Halves → Term
+merged_bytes k part = Choice (Call (of_move (Places VgetqLaneU64)) (More (Step 1) NoTerms) k) (gathered (Param 1) k) (one (of_move (Halves part)) (Param 0))
+
+abbrev pub merged_qwords : ℕ → Sequence
+merged_qwords scale = record {
+  params = vector ∷ pointer true ∷ vector ∷ vector ∷ [];
+  steps = distances (Param 2) scale ∷ top_bits (Param 3) ∷ [];
+  result = Some (two (of_move (Halves VcombineU8)) (merged_bytes 0 VgetLowU8) (merged_bytes 1 VgetHighU8));
 }
 
 -- of a row with that constant, 0 for a row without one
@@ -102,6 +114,7 @@ plan_of (form.Memory row.LoadLow) imm = Some (reading low_loaded)
 plan_of (form.Memory row.StoreLow) imm = Some (storing low_stored)
 plan_of (form.Memory (row.MaskLoad Xmm Qword)) imm = Some masked_qwords
 plan_of (form.Memory (row.Gather Xmm QwordsByDwords)) imm = Some (gathered_qwords imm)
+plan_of (form.Memory (row.MaskGather Xmm QwordsByDwords)) imm = Some (merged_qwords imm)
 plan_of f imm = None
 
 -- the most rows that a sequence may call: one where a whole register moves, and one more for a half; 8 for each lane that is moved by itself
@@ -110,4 +123,5 @@ ceiling_of (form.Memory row.LoadLow) = 2
 ceiling_of (form.Memory row.StoreLow) = 2
 ceiling_of (form.Memory (row.MaskLoad Xmm Qword)) = 16
 ceiling_of (form.Memory (row.Gather Xmm QwordsByDwords)) = 16
+ceiling_of (form.Memory (row.MaskGather Xmm QwordsByDwords)) = 16
 ceiling_of f = 1

@@ -13,7 +13,7 @@ ghost use Rattle.seq_core.specs.View.{view, view_seq};
 ghost use Rattle.seq_core.specs.Called.{plain, rows_called};
 ghost use Rattle.seq_core.specs.Formed.{WellFormed};
 ghost use Rattle.seq_memory.specs.Claims.{DoesAsTheRow};
-ghost use Rattle.seq_memory.specs.Plans.{one, two, pointer, reading, storing, no_bytes, low_loaded, low_stored, top_bits, chosen_bytes, eight_on, masked_qwords, power_of, distances, gathered, gathered_qwords, plan_of, ceiling_of};
+ghost use Rattle.seq_memory.specs.Plans.{one, two, pointer, reading, storing, no_bytes, low_loaded, low_stored, top_bits, chosen_bytes, eight_on, masked_qwords, power_of, distances, gathered, gathered_qwords, merged_bytes, merged_qwords, plan_of, ceiling_of};
 
 use c_tree::{CType, Pointee};
 use intel_forms::memory::{Indexing, Memory};
@@ -79,7 +79,7 @@ fn storing(alloc: Global, t: Term) -> Result<Seq, AllocError>
 }
 
 /// Whether the row has a sequence here: loads and stores of 16 bytes, aligned or not, and of the low 8 bytes, loads of the qwords that a mask of 16 bytes
-/// chooses, and gathers of two qwords by dwords.
+/// chooses, and gathers of two qwords by dwords, with a mask and without one.
 pub fn is_built(op: IntelOp) -> bool
     ensures { (imm : ℕ) → result ≡ is_some (plan_of (form_of op) imm) }
 {
@@ -92,6 +92,7 @@ pub fn is_built(op: IntelOp) -> bool
                 | Memory::StoreLow
                 | Memory::MaskLoad(Size::Xmm, Width::Qword)
                 | Memory::Gather(Size::Xmm, Indexing::QwordsByDwords)
+                | Memory::MaskGather(Size::Xmm, Indexing::QwordsByDwords)
         ),
         _ => false,
     }
@@ -211,11 +212,11 @@ fn power_of(scale: u16) -> u16
 }
 
 /// The two low dwords of the indices, as qwords, times the scale.
-fn distances(alloc: Global, scale: u16) -> Result<Term, AllocError>
-    ensures { IfOk result (λ t. view t ≡ distances scale) }
+fn distances(alloc: Global, indices: Term, scale: u16) -> Result<Term, AllocError>
+    ensures { IfOk result (λ t. view t ≡ distances (view indices) scale) }
 {
     let row = neon_table::moving(MoveOp::ToSigned(ToSigned::VreinterpretqS32U8));
-    let dwords = call_one(alloc, row, Term::Param(1), 0)?;
+    let dwords = call_one(alloc, row, indices, 0)?;
     let row = neon_table::moving(MoveOp::Halves(Halves::VgetLowS32));
     let dwords = call_one(alloc, row, dwords, 0)?;
     let row = neon_table::moving(MoveOp::Widened(Widened::VmovlS32));
@@ -225,12 +226,12 @@ fn distances(alloc: Global, scale: u16) -> Result<Term, AllocError>
 }
 
 /// Eight bytes that far on.
-fn gathered(alloc: Global, k: u16) -> Result<Term, AllocError>
-    ensures { IfOk result (λ t. view t ≡ gathered k) }
+fn gathered(alloc: Global, p: Term, k: u16) -> Result<Term, AllocError>
+    ensures { IfOk result (λ t. view t ≡ gathered (view p) k) }
 {
     let row = neon_table::moving(MoveOp::Places(Places::VgetqLaneS64));
     let distance = call_one(alloc, row, Term::Step(0), k)?;
-    let at = shifted(alloc, Term::Param(0), distance)?;
+    let at = shifted(alloc, p, distance)?;
     call_one(alloc, of_bytes(Bytes::Vld1U8), at, 0)
 }
 
@@ -242,9 +243,43 @@ fn gathered_qwords(alloc: Global, scale: u16) -> Result<Seq, AllocError>
     params.push(pointer(true))?;
     params.push(CType::Neon(NeonLane::U8, true))?;
     let mut steps = Vec::new(alloc);
-    steps.push(distances(alloc, scale)?)?;
-    let low = gathered(alloc, 0)?;
-    let high = gathered(alloc, 1)?;
+    steps.push(distances(alloc, Term::Param(1), scale)?)?;
+    let low = gathered(alloc, Term::Param(0), 0)?;
+    let high = gathered(alloc, Term::Param(0), 1)?;
+    let row = neon_table::moving(MoveOp::Halves(Halves::VcombineU8));
+    let both = call_two(alloc, row, low, high, 0)?;
+    Ok(Seq {
+        params,
+        steps,
+        result: Some(both),
+    })
+}
+
+/// Eight bytes that far on where a qword of the mask has its top bit, else that half of the first operand.
+fn merged_bytes(alloc: Global, k: u16, part: Halves) -> Result<Term, AllocError>
+    ensures { IfOk result (λ t. view t ≡ merged_bytes k part) }
+{
+    let row = neon_table::moving(MoveOp::Places(Places::VgetqLaneU64));
+    let bit = call_one(alloc, row, Term::Step(1), k)?;
+    let bytes = gathered(alloc, Term::Param(1), k)?;
+    let row = neon_table::moving(MoveOp::Halves(part));
+    choice(alloc, bit, bytes, call_one(alloc, row, Term::Param(0), 0)?)
+}
+
+/// Two qwords by dwords, where a mask chooses them.
+fn merged_qwords(alloc: Global, scale: u16) -> Result<Seq, AllocError>
+    ensures { IfOk result (λ s. view_seq s ≡ merged_qwords scale) }
+{
+    let mut params = Vec::new(alloc);
+    params.push(CType::Neon(NeonLane::U8, true))?;
+    params.push(pointer(true))?;
+    params.push(CType::Neon(NeonLane::U8, true))?;
+    params.push(CType::Neon(NeonLane::U8, true))?;
+    let mut steps = Vec::new(alloc);
+    steps.push(distances(alloc, Term::Param(2), scale)?)?;
+    steps.push(top_bits(alloc, Term::Param(3))?)?;
+    let low = merged_bytes(alloc, 0, Halves::VgetLowU8)?;
+    let high = merged_bytes(alloc, 1, Halves::VgetHighU8)?;
     let row = neon_table::moving(MoveOp::Halves(Halves::VcombineU8));
     let both = call_two(alloc, row, low, high, 0)?;
     Ok(Seq {
@@ -264,13 +299,14 @@ fn of_form(alloc: Global, form: Form, imm: u16) -> Result<Seq, AllocError>
         Form::Memory(Memory::LoadLow) => reading(alloc, low_loaded(alloc)?),
         Form::Memory(Memory::MaskLoad(_, _)) => masked_qwords(alloc),
         Form::Memory(Memory::Gather(_, _)) => gathered_qwords(alloc, imm),
+        Form::Memory(Memory::MaskGather(_, _)) => merged_qwords(alloc, imm),
         Form::Memory(Memory::StoreLow) => storing(alloc, low_stored(alloc)?),
         _ => storing(alloc, store(alloc)?),
     }
 }
 
-/// The sequence of a row that `is_built` names. Its parameters are the row's but the constant, which is part of it: a pointer to bytes, and a register
-/// where the row takes one. It does what the row does wherever the row is defined; an aligned row's asks for no alignment. The constant is a
+/// The sequence of a row that `is_built` names. Its parameters are the row's but the constant, which is part of it: a pointer to bytes, and the
+/// registers that the row takes. It does what the row does wherever the row is defined; an aligned row's asks for no alignment. The constant is a
 /// gather's scale, 1, 2, 4 or 8, and 0 for a row without one. The only error is want of memory.
 pub fn plan(alloc: Global, op: IntelOp, imm: u16) -> Result<Seq, AllocError>
     requires { IsSome (plan_of (form_of op) imm) }

@@ -104,6 +104,6 @@ fn sequences_of_rows_are_as_a_processor_has_the_rows(rt: HostRuntime) -> Result<
     for part in &parts {
         count = count.saturating_add(sequences_are_called(&rt, alloc, part)?);
     }
-    assert_eq!(rt; count, 107);
+    assert_eq!(rt; count, 108);
     Ok(())
 }
