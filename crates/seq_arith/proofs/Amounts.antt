@@ -6,7 +6,7 @@ use Rattle.std.proofs.lemmas.Bool.{cases_lt}
 use Rattle.std.proofs.lemmas.Int.{ints}
 use Rattle.std.proofs.Math.Nat.{mod-mod, mod-eq_of_lt, div-one, div-eq_of_lt}
 use Rattle.lane_core.specs.declared.vector.NeonLane.{NeonLane}
-use Rattle.lane_core.specs.declared.vector.NeonLane.TheVariants.{U16, U32, U64, S16, S32, S64}
+use Rattle.lane_core.specs.declared.vector.NeonLane.TheVariants.{U64, S64}
 use Rattle.lane_core.specs.Register.{Bytes, IsRegister, lane, build, signed, wrapped}
 use Rattle.lane_core.specs.Kernels.{map1_of, map2_of}
 use Rattle.lane_core.proofs.Lanes.{lane-build, build_same, lane_below, Bytes-build}
@@ -18,10 +18,9 @@ use Rattle.intel_lanes.specs.declared.lanes.Lane2.TheVariants.{ShiftBy}
 use Rattle.intel_lanes.specs.Lanes as intel
 use Rattle.intel_lanes.specs.Blocks as blocks
 use Rattle.intel_lanes.specs.Laws.{qword, xmm}
-use Rattle.neon_elements.specs.declared.elements.Binary.TheVariants.{Sub, SaturatingSub}
 use Rattle.neon_elements.specs.Elements as neon
 use Rattle.neon_elements.specs.Elements.{bytes_of, has_sign, unsigned_sat}
-use Rattle.neon_elements.specs.Vectors.{each2, shifted}
+use Rattle.neon_elements.specs.Vectors.{shifted}
 use Rattle.seq_arith.specs.Counts.{sixty_four}
 use Rattle.seq_arith.proofs.Kernels.{arithmetic_is}
 

@@ -1,13 +1,13 @@
 -- Products of bytes without a sign and bytes with one.
-use Rattle.std.proofs.Common.{◌≡◌, ℕ, zero, suc, ◌+◌, ◌-◌, ◌*◌, ◌/◌, ◌%◌, ◌^◌, ◌<◌, ◌≤◌, List, refl, ap, sym, ◌∙◌, arith, ℤ, pos, negsuc, ◌+ℤ◌, ◌-ℤ◌, ◌*ℤ◌, inl, inr}
+use Rattle.std.proofs.Common.{◌≡◌, ℕ, zero, suc, ◌+◌, ◌-◌, ◌*◌, ◌/◌, ◌%◌, ◌^◌, ◌<◌, ◌≤◌, List, ap, sym, ◌∙◌, arith, pos, negsuc, ◌+ℤ◌, ◌-ℤ◌, ◌*ℤ◌, inl, inr}
 use Rattle.std.specs.Int.{int_shr}
 use Rattle.std.proofs.lemmas.Bool.{cases_lt}
 use Rattle.std.proofs.lemmas.Int.{ints}
 use Rattle.std.proofs.lemmas.Nat.{mul-le}
 use Rattle.std.proofs.Math.IntN.{neg_ℤ, pos-*ℤ-pos, pos-*ℤ-negsuc}
-use Rattle.std.proofs.Math.Nat.{mod-eq_of_lt, mul-add}
+use Rattle.std.proofs.Math.Nat.{mul-add}
 use Rattle.lane_core.specs.declared.vector.NeonLane.TheVariants.{U16, S16}
-use Rattle.lane_core.specs.Register.{IsRegister, lane, build, signed, wrapped}
+use Rattle.lane_core.specs.Register.{IsRegister, lane, signed, wrapped}
 use Rattle.lane_core.specs.Kernels.{map1_of, map2_of}
 use Rattle.lane_core.proofs.Lanes.{build_same, lane_below}
 use Rattle.lane_core.proofs.Laws.{lane-map1, lane-map2, lane_low, lane_high}
