@@ -1,6 +1,6 @@
 -- What holds of every plan.
 use Rattle.std.specs.Prelude.{◌==◌, if◌then◌else◌}
-use Rattle.std.proofs.Common.{rules, ◌≡◌, ◌≤◌, ◌∙◌, ℕ, List, [], ◌∷◌, Bool, true, false, Option, Some, refl, ap, sym, subst, arith, length}
+use Rattle.std.proofs.Common.{rules, ◌≡◌, ◌≤◌, ◌∙◌, ℕ, List, [], ◌∷◌, Bool, true, false, Some, refl, ap, sym, subst, arith, length}
 use Rattle.scalar_core.specs.Numbers.{num_of}
 use Rattle.intel_lanes.specs.declared.lanes.Width.TheVariants.{Qword}
 use Rattle.intel_forms.specs.Forms.{is_scalar}
@@ -15,7 +15,6 @@ use Rattle.lane_core.specs.declared.vector.Pointee.{Pointee}
 use Rattle.lane_core.specs.declared.vector.Pointee.TheVariants.{M128}
 use Rattle.intel_forms.specs.Sizes.{vector_type, lane_type}
 use Rattle.lane_core.specs.Table.{params_of}
-use Rattle.c_memory.specs.declared.blocks.Block.{Block}
 use Rattle.c_memory.specs.declared.value.Value.{Value}
 use Rattle.intel_forms.specs.Forms as forms
 use Rattle.intel_forms.specs.declared.memory.Indexing.TheVariants.{QwordsByDwords}

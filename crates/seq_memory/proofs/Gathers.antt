@@ -1,16 +1,14 @@
 -- What gathers of two qwords by dwords do.
-use Rattle.std.proofs.Common.{◌≡◌, ℕ, zero, suc, ◌+◌, ◌-◌, ◌*◌, ◌/◌, ◌%◌, ◌^◌, ◌<◌, ◌≤◌, ◌==◌, List, [], ◌∷◌, Bool, true, false, Option, Some, None, refl, sym, ap, subst, ◌∙◌, arith, rules, ℤ, pos, negsuc, length, inl, inr}
-use Rattle.std.proofs.lemmas.Bool.{le-leb, cases_lt}
+use Rattle.std.proofs.Common.{◌≡◌, ℕ, zero, suc, ◌+◌, ◌-◌, ◌*◌, ◌%◌, ◌^◌, ◌<◌, ◌==◌, List, [], ◌∷◌, Bool, true, false, Option, Some, None, refl, sym, ap, subst, ◌∙◌, arith, rules, ℤ, pos, negsuc, length}
+use Rattle.std.proofs.lemmas.Bool.{le-leb}
 use Rattle.std.proofs.lemmas.Int.{ints}
-use Rattle.std.proofs.Math.Nat.{mod-eq_of_lt}
-use Rattle.std.specs.Prelude.{◌&&◌, ◌||◌, ◌*ℤ◌, ◌-ℤ◌, ◌≤ℤ◌, ◌<ℤ◌, nat_le, nat_lt, int_le, unsigned_abs, option_map, if◌then◌else◌}
+use Rattle.std.specs.Prelude.{◌*ℤ◌, ◌-ℤ◌, ◌≤ℤ◌, ◌<ℤ◌, nat_le, nat_lt, int_le, unsigned_abs, option_map, if◌then◌else◌}
 use Rattle.lane_core.specs.declared.number.IntType.TheVariants as int
 use Rattle.lane_core.specs.declared.number.Num.{Num}
 use Rattle.lane_core.specs.declared.table.ImmRange.TheVariants.{Scale}
 use Rattle.lane_core.specs.declared.vector.NeonLane.TheVariants.{S32, S64}
-use Rattle.lane_core.specs.IntRange.{InRange}
 use Rattle.lane_core.specs.Table.{params_of}
-use Rattle.lane_core.specs.Register.{IsRegister, lane, build, signed, wrapped}
+use Rattle.lane_core.specs.Register.{IsRegister, lane, signed, wrapped}
 use Rattle.lane_core.proofs.Lanes.{lane-build, build_same, lane_below, lane-take}
 use Rattle.lane_core.proofs.Laws.{lane-map1}
 use Rattle.lane_core.proofs.Signed.{signed-wrapped, signed_least, signed_greatest}

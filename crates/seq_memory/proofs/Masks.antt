@@ -1,9 +1,8 @@
 -- What loads of the qwords that a mask chooses do.
-use Rattle.std.proofs.Common.{◌≡◌, ℕ, zero, suc, ◌+◌, ◌-◌, ◌*◌, ◌/◌, ◌%◌, ◌^◌, ◌<◌, ◌≤◌, ◌==◌, List, [], ◌∷◌, ◌++◌, Bool, true, false, Option, Some, None, refl, sym, ap, subst, ◌∙◌, arith, rules, replicate, ℤ, pos, take, drop, length, slice_get, inl, inr}
+use Rattle.std.proofs.Common.{◌≡◌, ℕ, zero, suc, ◌+◌, ◌-◌, ◌/◌, ◌%◌, ◌^◌, ◌<◌, ◌≤◌, ◌==◌, List, [], ◌∷◌, ◌++◌, Bool, true, false, Option, Some, None, refl, sym, ap, subst, ◌∙◌, arith, rules, replicate, ℤ, pos, take, drop, length, slice_get, inl, inr}
 use Rattle.std.proofs.lemmas.Bool.{leb-true, le-leb, cases_lt}
 use Rattle.std.proofs.lemmas.Int.{ints}
 use Rattle.std.proofs.lemmas.List.{length-take-le, length-append, length-drop}
-use Rattle.std.proofs.Math.Nat.{mod-eq_of_lt}
 use Rattle.std.specs.Prelude.{not, ◌&&◌, ◌*ℤ◌, ◌+ℤ◌, unsigned_abs, int_le, nat_le, nat_lt, option_map, if◌then◌else◌}
 use Rattle.std.specs.Option.{option_and_then}
 use Rattle.std.specs.Ordering.{int_eq}
@@ -13,12 +12,10 @@ use Rattle.lane_core.specs.declared.number.Num.{Num}
 use Rattle.lane_core.specs.declared.vector.NeonLane.TheVariants.{U64}
 use Rattle.lane_core.specs.IntRange.{InRange}
 use Rattle.lane_core.specs.Register.{IsRegister, lane, build, wrapped}
-use Rattle.lane_core.specs.Kernels.{map1_of}
 use Rattle.lane_core.proofs.Lanes.{lane-build, build_same, lane_below, lane-take, lane-append_left, lane-append_right}
 use Rattle.lane_core.proofs.Laws.{lane-map1}
 use Rattle.scalar_core.specs.Numbers.{num_of}
 use Rattle.scalar_core.specs.NumberLaws.{num_of_in_range}
-use Rattle.scalar_core.specs.TwosComplement.{bits_of}
 use Rattle.c_memory.specs.declared.blocks.Block.{Block}
 use Rattle.c_memory.specs.declared.memory.Pointer.{Pointer}
 use Rattle.c_memory.specs.declared.memory.Pointer.TheVariants.{Null, At}

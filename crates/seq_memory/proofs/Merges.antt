@@ -1,23 +1,15 @@
 -- What gathers do of the qwords that a mask chooses, by dwords.
-use Rattle.std.proofs.Common.{◌≡◌, ℕ, zero, suc, ◌+◌, ◌-◌, ◌*◌, ◌/◌, ◌%◌, ◌^◌, ◌<◌, ◌≤◌, ◌==◌, List, [], ◌∷◌, Bool, true, false, Option, Some, None, refl, sym, ap, subst, ◌∙◌, arith, rules, ℤ, pos, negsuc, length, inl, inr}
-use Rattle.std.proofs.lemmas.Bool.{le-leb, cases_lt}
-use Rattle.std.proofs.lemmas.Int.{ints}
+use Rattle.std.proofs.Common.{◌≡◌, ℕ, zero, suc, ◌%◌, ◌^◌, ◌<◌, ◌==◌, List, [], ◌∷◌, Bool, true, false, Option, Some, None, refl, sym, ap, subst, ◌∙◌, arith, pos, length}
+use Rattle.std.proofs.lemmas.Bool.{le-leb}
 use Rattle.std.proofs.Math.Nat.{mod-eq_of_lt}
-use Rattle.std.specs.Prelude.{◌&&◌, ◌||◌, ◌*ℤ◌, ◌-ℤ◌, ◌≤ℤ◌, ◌<ℤ◌, nat_le, nat_lt, int_le, unsigned_abs, option_map, if◌then◌else◌}
+use Rattle.std.specs.Prelude.{nat_le, nat_lt, int_le, unsigned_abs, if◌then◌else◌}
 use Rattle.lane_core.specs.declared.number.IntType.TheVariants as int
 use Rattle.lane_core.specs.declared.number.Num.{Num}
 use Rattle.lane_core.specs.declared.table.ImmRange.TheVariants.{Scale}
-use Rattle.lane_core.specs.declared.vector.NeonLane.TheVariants.{S32, S64}
-use Rattle.lane_core.specs.IntRange.{InRange}
 use Rattle.lane_core.specs.Table.{params_of}
-use Rattle.lane_core.specs.Register.{IsRegister, lane, build, signed, wrapped}
-use Rattle.lane_core.proofs.Lanes.{lane-build, build_same, lane_below, lane-take}
-use Rattle.lane_core.proofs.Laws.{lane-map1}
-use Rattle.lane_core.proofs.Signed.{signed-wrapped, signed_least, signed_greatest}
+use Rattle.lane_core.specs.Register.{IsRegister, lane}
+use Rattle.lane_core.proofs.Lanes.{lane-build, build_same, lane_below}
 use Rattle.scalar_core.specs.Numbers.{num_of}
-use Rattle.scalar_core.specs.NumberLaws.{num_of_in_range}
-use Rattle.scalar_core.specs.TwosComplement as twos
-use Rattle.neon_elements.specs.Elements.{integer_of}
 use Rattle.neon_elements.specs.Vectors.{half}
 use Rattle.const_imm.specs.Constant.{is_true}
 use Rattle.c_memory.specs.declared.blocks.Block.{Block}
@@ -39,9 +31,9 @@ use Rattle.seq_core.specs.Actions.{sequence_in}
 use Rattle.seq_memory.specs.Plans.{power_of, merged_qwords}
 use Rattle.seq_memory.specs.Claims.{Asked, operands, DoesAsTheRow}
 use Rattle.seq_memory.proofs.Moves.{formed, by_form, apart}
-use Rattle.seq_memory.proofs.Halves.{low_half, low_read, given_by}
+use Rattle.seq_memory.proofs.Halves.{low_read, given_by}
 use Rattle.seq_memory.proofs.Gathers.{distance, distance_number, stepped_so, numbers}
-use Rattle.seq_memory.proofs.Masks.{bit_number, same_choice, read_from, pointed, gave, c63, zeros, eight_zeros, whole, first_put, second_put, kept_put, constant, c0, c1}
+use Rattle.seq_memory.proofs.Masks.{bit_number, same_choice, read_from, pointed, gave, c63, zeros, eight_zeros, whole, first_put, second_put, kept_put, c0, c1}
 
 abbrev pub merging_form : Form
 merging_form = form.Memory (row.MaskGather Xmm QwordsByDwords)
