@@ -1,4 +1,5 @@
 -- A vector of an integer for each lane.
+use Rattle.seq_pack.specs.Terms.{scalar_type}
 use Rattle.std.proofs.Common.{◌≡◌, ℕ, zero, suc, ◌+◌, ◌*◌, ◌/◌, ◌%◌, ◌^◌, ◌<◌, ◌≤◌, List, [], ◌∷◌, map, length, get_or, Bool, true, false, Option, Some, option_map, refl, ap, sym, ◌∙◌, subst, arith, rules, inl, inr, pos, ◌⊎◌}
 use Rattle.std.specs.Prelude.{nat_le, replicate, slice_get, if◌then◌else◌}
 use Rattle.std.specs.Option.{option_and_then}
@@ -145,16 +146,16 @@ number_at (x ∷ xs) (suc p) l = number_at xs p (omega (arith, l))
 
 -- the number for lane k, as it is passed
 abbrev pub lane_number : Bool → Width → List ℕ → ℕ → ℕ
-lane_number reversed width xs k = passed (unsigned_type width) (lane_type width) (get_or xs (param_of reversed width k) 0)
+lane_number reversed width xs k = passed (unsigned_type width) (scalar_type width) (get_or xs (param_of reversed width k) 0)
 
 lanes_value : (r : Bool) (width : Width) (xs : List ℕ) (k : ℕ) → ((i : ℕ) → i ≤ k → param_of r width i < length xs)
-    → value_of (map (value_as (lane_type width)) xs) [] (lanes_to r width k) ≡ Some (Value.R16 (chain (bytes_of width) (lane_number r width xs) k))
+    → value_of (map (value_as (scalar_type width)) xs) [] (lanes_to r width k) ≡ Some (Value.R16 (chain (bytes_of width) (lane_number r width xs) k))
 unfolding duplicated
-lanes_value r Byte xs zero h = rw (value_at int.Char xs (param_of r Byte 0) (h 0 (omega arith))) refl
+lanes_value r Byte xs zero h = rw (value_at int.SChar xs (param_of r Byte 0) (h 0 (omega arith))) refl
 lanes_value r Word xs zero h = rw (value_at int.Short xs (param_of r Word 0) (h 0 (omega arith))) refl
 lanes_value r Dword xs zero h = rw (value_at int.Int xs (param_of r Dword 0) (h 0 (omega arith))) refl
 lanes_value r Qword xs zero h = rw (value_at int.LLong xs (param_of r Qword 0) (h 0 (omega arith))) refl
-lanes_value r Byte xs (suc k) h = rw (value_at int.Char xs (param_of r Byte (suc k)) (h (suc k) (omega arith)), lanes_value r Byte xs k (λ i l. h i (omega (arith, l)))) refl
+lanes_value r Byte xs (suc k) h = rw (value_at int.SChar xs (param_of r Byte (suc k)) (h (suc k) (omega arith)), lanes_value r Byte xs k (λ i l. h i (omega (arith, l)))) refl
 lanes_value r Word xs (suc k) h = rw (value_at int.Short xs (param_of r Word (suc k)) (h (suc k) (omega arith)), lanes_value r Word xs k (λ i l. h i (omega (arith, l)))) refl
 lanes_value r Dword xs (suc k) h = rw (value_at int.Int xs (param_of r Dword (suc k)) (h (suc k) (omega arith)), lanes_value r Dword xs k (λ i l. h i (omega (arith, l)))) refl
 lanes_value r Qword xs (suc k) h = rw (value_at int.LLong xs (param_of r Qword (suc k)) (h (suc k) (omega arith)), lanes_value r Qword xs k (λ i l. h i (omega (arith, l)))) refl
@@ -174,7 +175,7 @@ abbrev pub given_lanes : Bool → Width → List Arg → List ℕ
 given_lanes r width args = build (bytes_of width) (16 / bytes_of width) (λ k. row.number (get_or args (param_of r width k) arg.Nothing))
 
 lanes_are : (r : Bool) (width : Width) (n : ℕ) (xs : List ℕ) → Filling (bytes_of width) → 16 / bytes_of width ≡ suc n → length xs ≡ 16 / bytes_of width
-    → ((x : ℕ) → passed (unsigned_type width) (lane_type width) x % 256 ^ bytes_of width ≡ x % 256 ^ bytes_of width)
+    → ((x : ℕ) → passed (unsigned_type width) (scalar_type width) x % 256 ^ bytes_of width ≡ x % 256 ^ bytes_of width)
     → chain (bytes_of width) (lane_number r width xs) n ≡ given_lanes r width (map arg.Int xs)
 lanes_are r width n xs f e len low =
     chain_whole (bytes_of width) n (lane_number r width xs) f e
@@ -183,7 +184,7 @@ lanes_are r width n xs f e len low =
     low (get_or xs (param_of r width k) 0) ∙ ap (λ v. v % 256 ^ bytes_of width) (sym (number_at xs (param_of r width k) (omega (arith, below, len)))))
 
 abbrev whole : Bool → Width → List Arg → Type 0
-whole r width args = evaluated (over (replicate (16 / bytes_of width) (CType.Int (lane_type width))) (each_lane r width)) args ≡ Some (arg.R16 (given_lanes r width args))
+whole r width args = evaluated (over (replicate (16 / bytes_of width) (CType.Int (scalar_type width))) (each_lane r width)) args ≡ Some (arg.R16 (given_lanes r width args))
 
 -- a reinterpretation of what there is
 abbrev reread : To → Option Value → Option Value
@@ -191,7 +192,7 @@ reread row o = option_and_then (called (of_move (ToUnsigned row)) 0) (option_and
 
 sets_give_byte : (r : Bool) (xs : List ℕ) → length xs ≡ 16 → whole r Byte (map arg.Int xs)
 sets_give_byte r xs e =
-    ap (λ o. option_map as_arg (option_and_then (sequence_value (over (replicate 16 (CType.Int int.Char)) (each_lane r Byte))) o)) (carried_n int.Char 16 xs e)
+    ap (λ o. option_map as_arg (option_and_then (sequence_value (over (replicate 16 (CType.Int int.SChar)) (each_lane r Byte))) o)) (carried_n int.SChar 16 xs e)
     ∙ ap (λ o. option_map as_arg (option_map Some o)) (lanes_value r Byte xs 15 (λ i l. let b = param_below r Byte i (omega (arith, l)) in omega (arith, b, e)))
     ∙ ap (λ s. Some (arg.R16 s)) (lanes_are r Byte 15 xs bytes_fill refl e char_passed)
 
@@ -221,9 +222,9 @@ sets_give r Qword xs e = sets_give_qword r xs e
 
 -- of all arguments that fit
 pub sets_of : (r : Bool) (width : Width) (args : List Arg) → FitsKinds (replicate (16 / bytes_of width) (kind.Scalar (lane_type width))) args
-    → evaluated (over (replicate (16 / bytes_of width) (CType.Int (lane_type width))) (each_lane r width)) (operands (replicate (16 / bytes_of width) (kind.Scalar (lane_type width))) args) ≡ Some (arg.R16 (given_lanes r width args))
+    → evaluated (over (replicate (16 / bytes_of width) (CType.Int (scalar_type width))) (each_lane r width)) (operands (replicate (16 / bytes_of width) (kind.Scalar (lane_type width))) args) ≡ Some (arg.R16 (given_lanes r width args))
 sets_of r width args h =
     let n = 16 / bytes_of width in
     let e = integers (lane_type width) (16 / bytes_of width) args h in
-    ap (evaluated (over (replicate (16 / bytes_of width) (CType.Int (lane_type width))) (each_lane r width))) (no_places (lane_type width) (16 / bytes_of width) args)
+    ap (evaluated (over (replicate (16 / bytes_of width) (CType.Int (scalar_type width))) (each_lane r width))) (no_places (lane_type width) (16 / bytes_of width) args)
     ∙ subst (whole r width) (sym e.1) (sets_give r width e.0 e.2)

@@ -54,9 +54,9 @@ unsigned_passed u n e g l =
     rw e (ap (bits_of int.ULong) (of_bits (2 ^ width u) (bits_of u n.value) (greatest u) b g) ∙ bits_small (bits_of u n.value) (omega (arith, b, l)))
 
 -- the argument's low bits are the integer's
-pub char_passed : (x : ℕ) → passed int.UChar int.Char x % 256 ^ 1 ≡ x % 256 ^ 1
+pub char_passed : (x : ℕ) → passed int.UChar int.SChar x % 256 ^ 1 ≡ x % 256 ^ 1
 char_passed x =
-    ap (λ v. v % 256 ^ 1) (unsigned_passed int.UChar (num_of int.Char (pos x)) refl refl (omega arith) ∙ low_bits int.Char int.UChar x (λ r l. omega (arith, l)) (omega arith) (omega arith)) ∙ mod-mod x (256 ^ 1)
+    ap (λ v. v % 256 ^ 1) (unsigned_passed int.UChar (num_of int.SChar (pos x)) refl refl (omega arith) ∙ low_bits int.SChar int.UChar x (λ r l. omega (arith, l)) (omega arith) (omega arith)) ∙ mod-mod x (256 ^ 1)
 
 pub short_passed : (x : ℕ) → passed int.UShort int.Short x % 256 ^ 2 ≡ x % 256 ^ 2
 short_passed x =

@@ -116,7 +116,7 @@ all_lanes_by w n p x e = build_same w n (λ i. p) (λ i. x) (λ k l. e)
 
 all_lanes_give : (width : Width) (imm x : ℕ) → evaluated (sequence_of (shape.AllLanes width) imm) (arg.Int x ∷ []) ≡ Some (arg.R16 (row.all_lanes 16 (bytes_of width) x))
 unfolding row.all_lanes duplicated
-all_lanes_give Byte imm x = as_register (all_lanes_by 1 16 (passed int.UChar int.Char x) x (char_passed x))
+all_lanes_give Byte imm x = as_register (all_lanes_by 1 16 (passed int.UChar int.SChar x) x (char_passed x))
 all_lanes_give Word imm x = as_register (all_lanes_by 2 8 (passed int.UShort int.Short x) x (short_passed x))
 all_lanes_give Dword imm x = as_register (all_lanes_by 4 4 (passed int.UInt int.Int x) x (int_passed x))
 all_lanes_give Qword imm x = as_register (all_lanes_by 8 2 (passed int.ULong int.LLong x) x (long_passed x))
@@ -135,7 +135,7 @@ low_lane Dword x = refl
 low_lane Qword x = refl
 
 low_lane_gives : (width : Width) (imm x : ℕ) → evaluated (sequence_of (shape.LowLane width) imm) (arg.Int x ∷ []) ≡ Some (arg.R16 (row.to_low_lane (bytes_of width) x))
-low_lane_gives Byte imm x = as_register (put_by 1 0 (passed int.UChar int.Char x) x zeros (char_passed x) ∙ low_lane Byte x)
+low_lane_gives Byte imm x = as_register (put_by 1 0 (passed int.UChar int.SChar x) x zeros (char_passed x) ∙ low_lane Byte x)
 low_lane_gives Word imm x = as_register (put_by 2 0 (passed int.UShort int.Short x) x zeros (short_passed x) ∙ low_lane Word x)
 low_lane_gives Dword imm x = as_register (put_by 4 0 (passed int.UInt int.Int x) x zeros (int_passed x) ∙ low_lane Dword x)
 low_lane_gives Qword imm x = as_register (put_by 8 0 (passed int.ULong int.LLong x) x zeros (long_passed x) ∙ low_lane Qword x)

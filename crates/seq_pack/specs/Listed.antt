@@ -14,12 +14,13 @@ use Rattle.intel_forms.specs.declared.scalars.Scalar.TheVariants as scalar
 use Rattle.intel_forms.specs.declared.forms.Form.{Form}
 use Rattle.intel_forms.specs.declared.forms.Form.TheVariants as form
 use Rattle.intel_forms.specs.Scalars.{lanes_of}
+use Rattle.c_memory.specs.Matching.{written_integer}
 use Rattle.seq_core.specs.Terms.{Term, Sequence}
 use Rattle.seq_core.specs.Formed.{vector, type_of}
 
--- the type of a row's parameter or result in a sequence: a vector is a carrier
+-- the type of a row's parameter or result in a sequence: a vector is a carrier, and an integer has the type that its own is written as
 abbrev pub carrier_of : ParamKind → CType
-carrier_of (kind.Scalar t) = CType.Int t
+carrier_of (kind.Scalar t) = CType.Int (written_integer t)
 carrier_of k = vector
 
 -- of the parameters but the immediate

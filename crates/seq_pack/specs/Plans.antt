@@ -1,4 +1,5 @@
 -- The sequence of each row, and the rows that have one here.
+use Rattle.seq_pack.specs.Terms.{scalar_type}
 use Rattle.std.specs.Prelude.{ℕ, ◌/◌, replicate, [], ◌∷◌, Bool, true, false, Option, Some, None, option_map, is_some}
 use Rattle.lane_core.specs.declared.vector.NeonLane.TheVariants.{U8, U16, S8, S16, S32}
 use Rattle.c_tree.specs.declared.types.CType.{CType}
@@ -14,7 +15,7 @@ use Rattle.intel_forms.specs.declared.scalars.Scalar.{Scalar}
 use Rattle.intel_forms.specs.declared.scalars.Scalar.TheVariants as scalar
 use Rattle.intel_forms.specs.declared.forms.Form.{Form}
 use Rattle.intel_forms.specs.declared.forms.Form.TheVariants as form
-use Rattle.intel_forms.specs.Sizes.{lane_type, result_type}
+use Rattle.intel_forms.specs.Sizes.{result_type}
 use Rattle.intel_table.specs.declared.IntelOp.{IntelOp}
 use Rattle.intel_table.specs.Rows.{form_of}
 use Rattle.neon_move.specs.declared.narrowed.Narrowed.TheVariants.{VqmovnS16, VqmovnS32, VqmovunS16, VqmovunS32}
@@ -35,12 +36,12 @@ sequence_of shape.Shuffled imm = over (vector ∷ vector ∷ []) shuffled
 sequence_of shape.BlendedBytes imm = over (vector ∷ vector ∷ vector ∷ []) blended_bytes
 sequence_of (shape.Blended width) imm = over (vector ∷ vector ∷ []) (blended width imm)
 sequence_of shape.Zero imm = over [] (Const zeros)
-sequence_of (shape.AllLanes width) imm = over (CType.Int (lane_type width) ∷ []) (all_lanes width)
-sequence_of (shape.LowLane width) imm = over (CType.Int (lane_type width) ∷ []) (with_lane width (Param 0) (Const zeros) 0)
+sequence_of (shape.AllLanes width) imm = over (CType.Int (scalar_type width) ∷ []) (all_lanes width)
+sequence_of (shape.LowLane width) imm = over (CType.Int (scalar_type width) ∷ []) (with_lane width (Param 0) (Const zeros) 0)
 sequence_of (shape.First width) imm = over (vector ∷ []) (lane_at width 0)
 sequence_of (shape.Lane width) imm = over (vector ∷ []) (lane_at width imm)
 sequence_of (shape.WithLane width) imm = over (vector ∷ CType.Int (result_type width) ∷ []) (with_lane width (Param 1) (Param 0) imm)
-sequence_of (shape.EachLane reversed width) imm = over (replicate (16 / bytes_of width) (CType.Int (lane_type width))) (each_lane reversed width)
+sequence_of (shape.EachLane reversed width) imm = over (replicate (16 / bytes_of width) (CType.Int (scalar_type width))) (each_lane reversed width)
 sequence_of shape.ByteSigns imm = over_steps (vector ∷ []) (marks ∷ []) marks_summed
 sequence_of (shape.Tested test) imm = over (vector ∷ vector ∷ []) (tested test)
 sequence_of shape.TestedOnes imm = over (vector ∷ []) tested_ones

@@ -127,6 +127,13 @@ blended width imm =
 
 -- ---- single values
 
+-- the type that an integer for a lane has in the written unit: a `char` of the source is a `signed char`
+abbrev pub scalar_type : Width → IntType
+scalar_type Byte = int.SChar
+scalar_type Word = int.Short
+scalar_type Dword = int.Int
+scalar_type Qword = int.LLong
+
 -- the type of an unsigned lane
 abbrev pub unsigned_type : Width → IntType
 unsigned_type Byte = int.UChar

@@ -3,7 +3,8 @@
 ghost use Rattle.std.specs.Prelude.{◌≡◌, ◌≤◌, ℕ, List, map, length, IfOk, Some, true, false};
 ghost use Rattle.lane_core.specs.declared.table.Arg.{Arg};
 ghost use Rattle.lane_core.specs.Table.{Fits, InImmRange, params_of};
-ghost use Rattle.intel_forms.specs.Sizes.{lane_type, result_type};
+ghost use Rattle.intel_forms.specs.Sizes.{result_type};
+ghost use Rattle.seq_pack.specs.Terms.{scalar_type};
 ghost use Rattle.intel_table.specs.Rows.{form_of, signature_of, range_of, eval_of, is_scalar};
 ghost use Rattle.neon_table.specs.Rows as neon;
 ghost use Rattle.seq_core.specs.View.{view_seq};
@@ -73,12 +74,12 @@ enum Shape {
     MinPosition,
 }
 
-/// The type of an integer for a lane.
-fn lane_type(width: Width) -> CType
-    ensures { result ≡ CType.Int (lane_type width) }
+/// The type that an integer for a lane has in the written unit.
+fn scalar_type(width: Width) -> CType
+    ensures { result ≡ CType.Int (scalar_type width) }
 {
     CType::Int(match width {
-        Width::Byte => IntType::Char,
+        Width::Byte => IntType::SChar,
         Width::Word => IntType::Short,
         Width::Dword => IntType::Int,
         Width::Qword => IntType::LLong,
@@ -100,7 +101,7 @@ fn low_lane(alloc: Global, width: Width) -> Result<Seq, AllocError>
     ensures { IfOk result (λ s. view_seq s ≡ sequence_of (Shape.LowLane width) 0) }
 {
     let t = with_lane(alloc, width, Term::Param(0), Term::Const([0; 16]), 0)?;
-    over_one(alloc, lane_type(width), t)
+    over_one(alloc, scalar_type(width), t)
 }
 
 /// An integer for each lane.
@@ -108,7 +109,7 @@ fn every_lane(alloc: Global, reversed: bool, width: Width) -> Result<Seq, AllocE
     ensures { IfOk result (λ s. view_seq s ≡ sequence_of (Shape.EachLane reversed width) 0) }
 {
     let mut seq = over_none(alloc, each_lane(alloc, reversed, width)?)?;
-    seq.params = vec![in alloc; lane_type(width); last_lane(width) as usize + 1]?;
+    seq.params = vec![in alloc; scalar_type(width); last_lane(width) as usize + 1]?;
     Ok(seq)
 }
 
@@ -150,7 +151,7 @@ fn sequence(alloc: Global, shape: Shape, imm: u16) -> Result<Seq, AllocError>
         }
         Shape::Blended(width) => over_two(alloc, CARRIER, CARRIER, blended(alloc, width, imm)?),
         Shape::Zero => over_none(alloc, Term::Const([0; 16])),
-        Shape::AllLanes(width) => over_one(alloc, lane_type(width), all_lanes(alloc, width)?),
+        Shape::AllLanes(width) => over_one(alloc, scalar_type(width), all_lanes(alloc, width)?),
         Shape::LowLane(width) => low_lane(alloc, width),
         Shape::First(width) => over_one(alloc, CARRIER, lane_at(alloc, width, 0)?),
         Shape::Lane(width) => over_one(alloc, CARRIER, lane_at(alloc, width, imm)?),
@@ -237,7 +238,7 @@ fn listed(alloc: Global, op: IntelOp, imm: u16) -> Result<Seq, AllocError>
     sequence(alloc, planned(intel_table::form(op)).unwrap(), imm)
 }
 
-/// The sequence of a row. It takes the row's vectors as `uint8x16_t` and its integers in their types, and the immediate is part of it. It gives
+/// The sequence of a row. It takes the row's vectors as `uint8x16_t` and its integers in the types that theirs are written as, and the immediate is part of it. It gives
 /// a vector as `uint8x16_t`, and an integer in its type. The only error is want of memory.
 pub fn plan(alloc: Global, op: IntelOp, imm: u16) -> Result<Seq, AllocError>
     requires ours { is_packing op ≡ true }
