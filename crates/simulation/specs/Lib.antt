@@ -24,3 +24,5 @@ pub mod HalvedLaws
 pub mod RegisterLaws
 pub mod NestLaws
 pub mod TableLaws
+pub mod ParameterLaws
+pub mod OrderLaws
