@@ -26,3 +26,4 @@ pub mod NestLaws
 pub mod TableLaws
 pub mod ParameterLaws
 pub mod OrderLaws
+pub mod BeginLaws
