@@ -79,7 +79,7 @@ begun_at s bs (Some m) = Done tt (record s { objects = bs; memory = m })
 
 -- ---- one parameter
 
-apart_begins : (body : Statements) (o : Object) (v : Value) (s : State) → takes_statements o.name body ≡ false
+pub apart_begins : (body : Statements) (o : Object) (v : Value) (s : State) → takes_statements o.name body ≡ false
     → begin_parameter body o v s ≡ Done tt (record s { objects = apart o v ∷ s.objects })
 apart_begins body o v s e = let mine : bytes_eq o.name o.name ≡ true = (bytes_eq-Decides o.name o.name).1 refl in rw (e, mine, mine) refl
 
@@ -110,7 +110,7 @@ added_long m w b (Some bytes) e =
     one : (k : ℕ) → k + 1 ≡ suc k
     one k = omega arith
 
-neither : (p q : Bool) → (p || q) ≡ false → (p ≡ false) × (q ≡ false)
+pub neither : (p q : Bool) → (p || q) ≡ false → (p ≡ false) × (q ≡ false)
 neither true q e = absurd (cc)
 neither false q e = (refl, e)
 

@@ -30,21 +30,21 @@ pub record AreFirstOf (t : CType) (bytes others : List ℕ) : Type 0 where
 
 -- ---- the innermost object is a block
 
-record Front (s t : CType) (k : ℕ) (b c : Binding) : Type 0 where
-  ty : b.ty ≡ s
-  other_ty : c.ty ≡ t
-  location : b.location ≡ InBlock k
-  other_location : c.location ≡ InBlock k
+pub record Front (s t : CType) (k : ℕ) (b c : Binding) : Type 0 where
+  pub ty : b.ty ≡ s
+  pub other_ty : c.ty ≡ t
+  pub location : b.location ≡ InBlock k
+  pub other_location : c.location ≡ InBlock k
 
 -- what is found by its name
-record FoundFront (x : List ℕ) (s t : CType) (k : ℕ) (bs cs : List Binding) : Type 0 where
-  b : Binding
-  c : Binding
-  found_first : found x bs ≡ Some b
-  found_second : found x cs ≡ Some c
-  front : Front s t k b c
+pub record FoundFront (x : List ℕ) (s t : CType) (k : ℕ) (bs cs : List Binding) : Type 0 where
+  pub b : Binding
+  pub c : Binding
+  pub found_first : found x bs ≡ Some b
+  pub found_second : found x cs ≡ Some c
+  pub front : Front s t k b c
 
-found_front : (R : Relation) (x : List ℕ) (s t : CType) (k : ℕ) (scope : List Carried) (ks : Marks) (bs cs : List Binding)
+pub found_front : (R : Relation) (x : List ℕ) (s t : CType) (k : ℕ) (scope : List Carried) (ks : Marks) (bs cs : List Binding)
     → Scope R (Shared InMemory x s t ∷ scope) (inner (Number k) ks) bs cs → FoundFront x s t k bs cs
 found_front R x s t k scope ks (b ∷ bs) (c ∷ cs) h =
     let mine : bytes_eq x x ≡ true = (bytes_eq-Decides x x).1 refl in
@@ -64,10 +64,10 @@ value_in_block : (b : Binding) (t : CType) (k : ℕ) (v : Value) → b.ty ≡ t 
 value_in_block b t k v e f = rw (e, f) refl
 
 -- the first value of an object by its name
-abbrev gets : List ℕ → Value → Does (Unit {0})
+abbrev pub gets : List ℕ → Value → Does (Unit {0})
 gets x v = object_of x >>= (λ b. first_value b v)
 
-gets_in_block : (x : List ℕ) (t : CType) (k : ℕ) (v : Value) (b : Binding) (s : State) → found x s.objects ≡ Some b → b.ty ≡ t → b.location ≡ InBlock k
+pub gets_in_block : (x : List ℕ) (t : CType) (k : ℕ) (v : Value) (b : Binding) (s : State) → found x s.objects ≡ Some b → b.ty ≡ t → b.location ≡ InBlock k
     → gets x v s ≡ then_do (defined (encoded t v) s) (fill k)
 gets_in_block x t k v b s e f g = ap (λ o. then_do (defined o s) (λ b. first_value b v)) e ∙ ap (λ (p : Does (Unit {0})). p s) (value_in_block b t k v f g)
 
@@ -82,10 +82,10 @@ list_in_block o all k b s e f =
 
 -- ---- the three kinds of first values
 
-initialised_none : (o : Object) (i : Option Tree) (l : Option Trees) (c : Calls) → i ≡ None → l ≡ None → initialised o i l c ≡ pure tt
+pub initialised_none : (o : Object) (i : Option Tree) (l : Option Trees) (c : Calls) → i ≡ None → l ≡ None → initialised o i l c ≡ pure tt
 initialised_none o i l c e f = rw (e, f) refl
 
-initialised_some : (o : Object) (i : Option Tree) (l : Option Trees) (a : Tree) (c : Calls) → i ≡ Some a
+pub initialised_some : (o : Object) (i : Option Tree) (l : Option Trees) (a : Tree) (c : Calls) → i ≡ Some a
     → initialised o i l c ≡ (its_value (expression a c) >>= (λ v. gets o.name v))
 initialised_some o i l a c e = rw e refl
 
@@ -132,7 +132,7 @@ module _ (n : ℕ) (R : Relation) where
         rw (both.first, both.second) (set_front_sim R MayBeSet o.name o.ty o'.ty scope (inner Unmarked ks) v w h)))
 
     -- a block of both does
-    first_block_ends : (k : ℕ) (v w : Value) (u y : State) (c : Block) → FirstBytes o.ty o'.ty → R o.ty v w → Alike n (block k) u y
+    pub first_block_ends : (k : ℕ) (v w : Value) (u y : State) (c : Block) → FirstBytes o.ty o'.ty → R o.ty v w → Alike n (block k) u y
         → slice_get y.memory k ≡ Some c → length c.bytes ≡ length (unset_bytes o'.ty)
         → Ends ◌≡◌ (After n (block k) y) (gets o.name v u) (gets o'.name w y)
     first_block_ends k v w u y c bytes h a e long =

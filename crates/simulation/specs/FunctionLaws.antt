@@ -90,7 +90,7 @@ result_sim n R E r t _ _ h k = absurd k
 abbrev pub body_of : Definition → Calls → List Value → Does (Option Value)
 body_of f c args = begin_parameters f.body f.params args >> (sequence f.body c >>= result f.result)
 
-back_ends : (n : ℕ) (R : Relation) (r : CType) (F : Objects) (s t a b : State) (o p : Out (Option Value)) → Blocks n s.memory t.memory → b.memory ≡ t.memory
+pub back_ends : (n : ℕ) (R : Relation) (r : CType) (F : Objects) (s t a b : State) (o p : Out (Option Value)) → Blocks n s.memory t.memory → b.memory ≡ t.memory
     → Ends (Given R r) (After n F b) o p → Ends (Given R r) (Back n s t) (then_do o (back_to s)) (then_do p (back_to t))
 back_ends n R r F s t a b Undefined p e f h = tt
 back_ends n R r F s t a b Turns Turns e f h = tt

@@ -153,10 +153,10 @@ plain_value (CType.Pointer e k) b h = refl
 plain_value CType.Void b h = refl
 plain_value (CType.Array e n k) b h = absurd (cc)
 
-abbrev of_objects : List ℕ → List Binding → Does (Option Value)
+abbrev pub of_objects : List ℕ → List Binding → Does (Option Value)
 of_objects x bs = λ s. then_do (then_do (defined (found x bs) s) (λ b. object_value b.ty b)) (λ v. pure (Some v))
 
-reads_at : (x : List ℕ) (t : CType) (v : Value) (b : Binding) (bs : List Binding) (s : State) → found x bs ≡ Some b → b.ty ≡ t → is_array t ≡ false
+pub reads_at : (x : List ℕ) (t : CType) (v : Value) (b : Binding) (bs : List Binding) (s : State) → found x bs ≡ Some b → b.ty ≡ t → is_array t ≡ false
     → b.location ≡ Apart (Some v)
     → of_objects x bs s ≡ Done (Some v) s
 reads_at x t v b bs s e f g h =

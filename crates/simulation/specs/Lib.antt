@@ -27,3 +27,4 @@ pub mod TableLaws
 pub mod ParameterLaws
 pub mod OrderLaws
 pub mod BeginLaws
+pub mod HeadLaws

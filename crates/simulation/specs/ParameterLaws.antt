@@ -50,7 +50,7 @@ abbrev pub with_carried : Statements → List Object → List Object → List Ca
 with_carried body (o ∷ os) (o' ∷ os') scope = with_carried body os os' (Shared (way_of (takes_statements o.name body)) o.name o.ty o'.ty ∷ scope)
 with_carried body os os' scope = scope
 
-further : (k i : ℕ) → suc k + i ≡ k + suc i
+pub further : (k i : ℕ) → suc k + i ≡ k + suc i
 further k i = omega arith
 
 module _ (n : ℕ) (R : Relation) (body body' : Statements) where
