@@ -1,3 +1,4 @@
 mod Covering
 mod Example
+mod ParameterExample
 mod TableExample

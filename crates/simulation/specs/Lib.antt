@@ -28,3 +28,4 @@ pub mod ParameterLaws
 pub mod OrderLaws
 pub mod BeginLaws
 pub mod HeadLaws
+pub mod WrittenHeads

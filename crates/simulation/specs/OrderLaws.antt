@@ -23,6 +23,7 @@ use Rattle.c_memory.specs.Meaning.{Calls, type_of, name_in, its_value, give, con
 use Rattle.c_memory.specs.Meaning.{size_value, element, element_of, pointed, expression, kind_expression, target, kind_target, last, values, begin_object, filled, fill, first_value, first_bytes, initialised, Later, declare_one, declare}
 use Rattle.c_memory.specs.Meaning.{Flow, Next, Broke, Continued, Returned, on_next, on_loop, loops, loops_after, then_step, with_step, optional_condition, optional_value, returned, no_more, act, optional_act, optional_body, sequence}
 use Rattle.c_memory.specs.Meaning.{result, back_to, call_of, spend_for, is_helper, with_function}
+use Rattle.c_memory.specs.MeaningRows.{RowTable, row_done, row_result, found_call, call_of_row}
 
 -- ---- objects in another order
 
@@ -567,3 +568,16 @@ steady_with_function tables f c h count x vs = at (bytes_eq x f.name) (is_helper
     at true true = steady_bind (steady_pure (tt {0})) (λ u. steady_call count tables f c vs)
     at true false = steady_bind steady_spend (λ u. steady_call count tables f c vs)
     at false w = h count x vs
+
+row_same : (count : ℕ) (bs cs : List Binding) (m : List MemoryBlock) (l : ℕ) (o : Option (Option Value × List MemoryBlock)) → Reordered count bs cs
+    → SameOut count (row_done (at_state bs m l) o) (row_done (at_state cs m l) o)
+row_same count bs cs m l None r = tt
+row_same count bs cs m l (Some (v, w)) r = (refl, r, refl, refl)
+
+-- calls of a table's rows do
+pub steady_rows : {Op : Type 0} (table : RowTable Op) → AreSteady (call_of_row table)
+steady_rows {Op = Op} table count x vs = at (table.find x)
+  where
+    at : (op : Option Op) → Steady count (found_call table op vs)
+    at None = steady_undefined
+    at (Some op) = record { by = λ bs cs m l r. row_same count bs cs m l (row_result table op vs m) r }

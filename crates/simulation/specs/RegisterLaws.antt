@@ -1,5 +1,5 @@
 -- Laws of what is read: bytes, as many as were asked for.
-use Rattle.std.proofs.Common.{◌≡◌, ℕ, zero, suc, ◌<◌, List, [], ◌∷◌, length, take, drop, get_or, Bool, true, false, Option, Some, None, refl, ap, subst, arith}
+use Rattle.std.proofs.Common.{◌≡◌, ℕ, zero, suc, ◌<◌, List, [], ◌∷◌, map, length, take, drop, get_or, Bool, true, false, Option, Some, None, refl, ap, subst, arith}
 use Rattle.std.proofs.Common.{slice_get}
 use Rattle.std.specs.Prelude.{option_map, if◌then◌else◌}
 use Rattle.std.proofs.lemmas.List.{length-take, length-drop}
@@ -53,3 +53,8 @@ read_register n m w (At k offset) align size r h e = at (slice_get m k) (slice_g
     at (Some b) (Some c) g e = in_register b c g.0 offset align size r (reaches b offset align size) g.1 refl e
     at None (Some c) g e = absurd g
     at (Some b) None g e = absurd g
+
+-- a register's bytes, where they are set in a block
+pub set_register_bytes : (r : List ℕ) → Bytes r → AreBytes (map Some r)
+set_register_bytes [] h = tt
+set_register_bytes (x ∷ r) h = (h.below 0, set_register_bytes r (record { below = λ i. h.below (suc i) }))
