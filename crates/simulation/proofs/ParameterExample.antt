@@ -89,17 +89,20 @@ x_array = record (object x_name bytes) { align = Some (Node p number (Const (num
 abbrev n_object : Object
 n_object = record (object n_name number) { init = Some (Node p number (Name other_n)) }
 
-abbrev stored : Tree
-stored = Node p CType.Void (Call store (More (Node p bytes (Name x_name)) (More (Node p register (Name other_x)) NoTrees)))
+abbrev filling : Tree
+filling = Node p CType.Void (Call store (More (Node p bytes (Name x_name)) (More (Node p register (Name other_x)) NoTrees)))
 
 abbrev whole : Statements
-whole = Then (Declare (x_array ∷ [])) (Then (Run stored) (Then (Declare (n_object ∷ [])) body))
+whole = Then (Declare (x_array ∷ [])) (Then (Run filling) (Then (Declare (n_object ∷ [])) body))
 
 abbrev parameters : List Object
 parameters = object x_name CType.M128 ∷ object k_name number ∷ object n_name number ∷ []
 
 abbrev others : List Object
 others = object other_x register ∷ object k_name number ∷ object other_n number ∷ []
+
+abbrev locals : List Object
+locals = x_array ∷ object k_name number ∷ n_object ∷ []
 
 abbrev f : Definition
 f = record { place = p; name = codes "f"; result = number; params = parameters; is_static = false; is_inline = false; body = body }
@@ -121,14 +124,14 @@ covers_n : Covers false (first_block (object n_name number)) (first_block n_obje
 covers_n = record { bytes = refl; alive = refl; align = omega arith; writable = λ u. u; are_bytes = tt; size = omega arith; kept = λ u. absurd (cc) }
 
 module _ (n : ℕ) (c d : Calls) (stores : WritesRegister d store 1 16 Value.R16) where
-  heads : Headed n WrittenValues body d parameters others whole body
+  heads : Headed n WrittenValues body d parameters others locals whole body
   heads =
       StoreHead (object x_name CType.M128) (object other_x register) x_array (object k_name number ∷ object n_name number ∷ []) (object k_name number ∷ object other_n number ∷ [])
-      (Then (Declare (n_object ∷ [])) body) body p p p CType.Void bytes register store 1
+      (object k_name number ∷ n_object ∷ []) (Then (Declare (n_object ∷ [])) body) body p p p CType.Void bytes register store 1
       (record { same = refl; takes = refl; inside = refl; covers = covers_x; other = refl; plain = refl })
       (record { init = refl; list = refl; constant = refl; array = refl; aligned = subst (λ k. 1 ≤ k) (sym sixteen) (omega arith); divides = refl; fills = vector_fills d store 1 x_array refl stores })
-      (ApartHead (object k_name number) (object k_name number) (object n_name number ∷ []) (object other_n number ∷ []) (Then (Declare (n_object ∷ [])) body) body refl
-      (SetHead (object n_name number) (object other_n number) n_object [] [] body body p number
+      (ApartHead (object k_name number) (object k_name number) (object n_name number ∷ []) (object other_n number ∷ []) (n_object ∷ []) (Then (Declare (n_object ∷ [])) body) body refl
+      (SetHead (object n_name number) (object other_n number) n_object [] [] [] body body p number
       (record { same = refl; takes = refl; inside = refl; covers = covers_n; other = refl; plain = refl })
       (record { init = refl; bytes = written_first_bytes n int.Int }) (NoHeads body)))
 
@@ -165,14 +168,13 @@ module _ (n : ℕ) (c d : Calls) (stores : WritesRegister d store 1 16 Value.R16
 
 -- the written function does what the source's does
 does_the_same : MemoryLaw → TurnsLaw → (rows other_rows : Calls) → AreSteady rows → WritesRegister other_rows store 1 16 Value.R16 → DoesTheSame rows other_rows written_type (Function f ∷ []) (Function g ∷ [])
-unfolding heads
 does_the_same law turns rows other_rows steady stores =
     written_runs_match law turns rows other_rows (Function f ∷ []) (Function g ∷ [])
     (AndFunction f g [] [] (record { name = refl; is_static = refl; is_inline = refl; result = refl; types = refl }) NoItems) tt (λ m.
     let n = m + 0 in
     let anything : Objects = λ bs cs. Unit {0} in
     AndBoth rows other_rows f g [] [] refl
-    (headed_call n WrittenValues [] [] f g rows other_rows [] (numbered m) anything body (heads n rows other_rows stores) tt steady
+    (headed_call n WrittenValues [] [] f g rows other_rows [] (numbered m) anything locals body (heads n rows other_rows stores) tt steady
     (refl, (refl, (refl, tt))) ((refl, (λ e. absurd (cc)), ((refl, (λ e. refl), ((refl, (λ e. absurd (cc)), tt)))))) (refl, (refl, (refl, tt)))
     (((λ e. refl), ((λ e. refl), tt)), (((λ e. refl), tt), (tt, tt))) (λ e. e)
     (λ vs ws all a kept. weaker n (Scope WrittenValues (scope n rows other_rows stores) all) (Within WrittenValues (scope n rows other_rows stores) all) anything (sequence body rows)

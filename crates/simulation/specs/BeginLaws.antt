@@ -246,11 +246,12 @@ module _ (body : Statements) where
 
   -- ---- and there are as many
 
-  abbrev one_if : Bool → ℕ
+  abbrev pub one_if : Bool → ℕ
   one_if true = 1
   one_if false = 0
 
-  abbrev how_many : List Object → ℕ
+  -- how many of them are blocks
+  abbrev pub how_many : List Object → ℕ
   how_many [] = 0
   how_many (o ∷ os) = one_if (takes_statements o.name body) + how_many os
 

@@ -27,8 +27,7 @@ use Rattle.simulation.specs.DeclareLaws.{FirstBytes, in_block, gets, gets_in_blo
 use Rattle.simulation.specs.HeldLaws.{of_objects, reads_at}
 use Rattle.simulation.specs.StoreLaws.{MayFill, fill_store_ends}
 use Rattle.simulation.specs.OrderLaws.{AreSteady}
-use Rattle.simulation.specs.BeginLaws.{is_among, AreDistinct, ArePaired, neither, begin_apart, begin_blocks, apart_begins, in_order, called_in_order}
-use Rattle.simulation.specs.ParameterLaws.{further}
+use Rattle.simulation.specs.BeginLaws.{is_among, AreDistinct, ArePaired, neither, one_if, how_many, begin_apart, begin_blocks, apart_begins, in_order, called_in_order}
 
 -- ---- parameters of the written function
 
@@ -204,6 +203,10 @@ two_values : (d : Calls) (f : List ℕ) (a b : Tree) (s : State) (v w : Value) �
     → (values (More a (More b NoTrees)) d >>= d f) s ≡ d f (v ∷ w ∷ []) s
 two_values d f a b s v w h k = rw (h, k) refl
 
+-- the call of a store, with an array and a parameter
+abbrev pub stored : (p q r : Place) (ty tz tu : CType) → List ℕ → Object → Object → Tree
+stored p q r ty tz tu store l m = Node p ty (Call store (More (Node q tz (Name l.name)) (More (Node r tu (Name m.name)) NoTrees)))
+
 module _ (n : ℕ) (R : Relation) (body : Statements) (d : Calls) (scope : List Carried) (ks : Marks) (o l m : Object) (v w : Value) where
   abbrev place : ℕ → Objects
   place k = Scope R (Shared InMemory o.name o.ty l.ty ∷ scope) (inner (Number k) ks)
@@ -248,9 +251,9 @@ module _ (n : ℕ) (R : Relation) (body : Statements) (d : Calls) (scope : List 
     store_head_sim : (later behind : Later) (p q r : Place) (ty tz tu : CType) (store : List ℕ) (align : ℕ) → in_block l later ≡ true → l.init ≡ None → l.list ≡ None → is_const l ≡ false
         → is_array l.ty ≡ true → align ≤ (first_block l).align → (0 % align == 0) ≡ true → Fills R d store align o.ty l v w
         → Sim n GoesOn (Scope R scope ks) begun (begin_parameter body o v)
-        (act (Declare (l ∷ [])) later d >>= (λ f. on_next f (act (Run (Node p ty (Call store (More (Node q tz (Name l.name)) (More (Node r tu (Name m.name)) NoTrees))))) behind d)))
+        (act (Declare (l ∷ [])) later d >>= (λ f. on_next f (act (Run (stored p q r ty tz tu store l m)) behind d)))
     store_head_sim later behind p q r ty tz tu store align inside init list constant array aligned divides fills =
-        let run = act (Run (Node p ty (Call store (More (Node q tz (Name l.name)) (More (Node r tu (Name m.name)) NoTrees))))) behind d in
+        let run = act (Run (stored p q r ty tz tu store l m)) behind d in
         second_as (λ t. sym (head_is l (in_block l later) (initialised l l.init l.list d) run t (initialised_none l l.init l.list d init list)))
         (begin_block_then R scope ks GoesOn begun o l (takes_statements o.name body) (in_block l later) (gets o.name v) run same takes inside covers (λ k s t al last.
         let f = found_front R o.name o.ty l.ty k scope ks s.objects t.objects al.objects in
@@ -292,29 +295,23 @@ pub record IsStored (R : Relation) (d : Calls) (o l : Object) (store : List ℕ)
   pub divides : (0 % align == 0) ≡ true
   pub fills : (v w : Value) → R o.ty v w → Fills R d store align o.ty l v w
 
--- The statements begin with what the parameters in memory are written as, in their order; behind that is the rest.
-pub data Headed (n : ℕ) (R : Relation) (body : Statements) (d : Calls) : List Object → List Object → Statements → Statements → Type 0 where
-  NoHeads : (rest : Statements) → Headed n R body d [] [] rest rest
-  ApartHead : (o m : Object) (os ms : List Object) (s rest : Statements) → takes_statements o.name body ≡ false → Headed n R body d os ms s rest → Headed n R body d (o ∷ os) (m ∷ ms) s rest
-  SetHead : (o m l : Object) (os ms : List Object) (s rest : Statements) (p : Place) (ty : CType) → IsLocal body o m l (λ x. takes_statements x s) → IsSet n R o m l p ty → Headed n R body d os ms s rest
-      → Headed n R body d (o ∷ os) (m ∷ ms) (Then (Declare (l ∷ [])) s) rest
-  StoreHead : (o m l : Object) (os ms : List Object) (s rest : Statements) (p q r : Place) (ty tz tu : CType) (store : List ℕ) (align : ℕ)
-      → IsLocal body o m l (λ x. takes_statements x (Then (Run (Node p ty (Call store (More (Node q tz (Name l.name)) (More (Node r tu (Name m.name)) NoTrees))))) s)) → IsStored R d o l store align
-      → Headed n R body d os ms s rest
-      → Headed n R body d (o ∷ os) (m ∷ ms) (Then (Declare (l ∷ [])) (Then (Run (Node p ty (Call store (More (Node q tz (Name l.name)) (More (Node r tu (Name m.name)) NoTrees))))) s)) rest
+-- The statements begin with what the parameters in memory are written as, in their order; behind that is the rest. `ls` are their local objects; a parameter apart
+-- from memory stands for itself among them.
+pub data Headed (n : ℕ) (R : Relation) (body : Statements) (d : Calls) : List Object → List Object → List Object → Statements → Statements → Type 0 where
+  NoHeads : (rest : Statements) → Headed n R body d [] [] [] rest rest
+  ApartHead : (o m : Object) (os ms ls : List Object) (s rest : Statements) → takes_statements o.name body ≡ false → Headed n R body d os ms ls s rest
+      → Headed n R body d (o ∷ os) (m ∷ ms) (m ∷ ls) s rest
+  SetHead : (o m l : Object) (os ms ls : List Object) (s rest : Statements) (p : Place) (ty : CType) → IsLocal body o m l (λ x. takes_statements x s) → IsSet n R o m l p ty
+      → Headed n R body d os ms ls s rest
+      → Headed n R body d (o ∷ os) (m ∷ ms) (l ∷ ls) (Then (Declare (l ∷ [])) s) rest
+  StoreHead : (o m l : Object) (os ms ls : List Object) (s rest : Statements) (p q r : Place) (ty tz tu : CType) (store : List ℕ) (align : ℕ)
+      → IsLocal body o m l (λ x. takes_statements x (Then (Run (stored p q r ty tz tu store l m)) s)) → IsStored R d o l store align → Headed n R body d os ms ls s rest
+      → Headed n R body d (o ∷ os) (m ∷ ms) (l ∷ ls) (Then (Declare (l ∷ [])) (Then (Run (stored p q r ty tz tu store l m)) s)) rest
 
--- what is in scope behind them, and how many objects that are
-abbrev pub with_locals : (n : ℕ) (R : Relation) (body : Statements) (d : Calls) (os ms : List Object) (s rest : Statements) → Headed n R body d os ms s rest → List Carried → List Carried
-with_locals n R body d _ _ _ _ (NoHeads rest) scope = scope
-with_locals n R body d _ _ _ _ (ApartHead o m os ms s rest e h) scope = with_locals n R body d os ms s rest h scope
-with_locals n R body d _ _ _ _ (SetHead o m l os ms s rest p ty i j h) scope = with_locals n R body d os ms s rest h (Shared InMemory o.name o.ty l.ty ∷ scope)
-with_locals n R body d _ _ _ _ (StoreHead o m l os ms s rest p q r ty tz tu store align i j h) scope = with_locals n R body d os ms s rest h (Shared InMemory o.name o.ty l.ty ∷ scope)
-
-abbrev pub locals : (n : ℕ) (R : Relation) (body : Statements) (d : Calls) (os ms : List Object) (s rest : Statements) → Headed n R body d os ms s rest → ℕ
-locals n R body d _ _ _ _ (NoHeads rest) = 0
-locals n R body d _ _ _ _ (ApartHead o m os ms s rest e h) = locals n R body d os ms s rest h
-locals n R body d _ _ _ _ (SetHead o m l os ms s rest p ty i j h) = suc (locals n R body d os ms s rest h)
-locals n R body d _ _ _ _ (StoreHead o m l os ms s rest p q r ty tz tu store align i j h) = suc (locals n R body d os ms s rest h)
+-- what is in scope behind them
+abbrev pub with_locals : Statements → List Object → List Object → List Carried → List Carried
+with_locals body (o ∷ os) (l ∷ ls) scope = with_locals body os ls (if takes_statements o.name body then Shared InMemory o.name o.ty l.ty ∷ scope else scope)
+with_locals body os ls scope = scope
 
 -- the other parameters have the values
 abbrev pub AreKnown : Statements → List Object → List Object → List Value → List Value → List Carried → Marks → Type 0
@@ -340,6 +337,12 @@ all_further body (o ∷ os) [] vs ws scope ks way y a b mark u k = tt
 all_further body (o ∷ os) (m ∷ ms) [] ws scope ks way y a b mark u k = tt
 all_further body (o ∷ os) (m ∷ ms) (v ∷ vs) [] scope ks way y a b mark u k = tt
 
+none_more : (k i : ℕ) → 0 + k + i ≡ k + i
+none_more k i = omega arith
+
+one_more : (k i : ℕ) → 1 + k + i ≡ k + suc i
+one_more k i = omega arith
+
 two_statements : (o : Out Flow) (a p : Does Flow) → then_do (then_do o (λ f. on_next f a)) (λ g. on_next g p) ≡ then_do o (λ f. on_next f (a >>= (λ g. on_next g p)))
 two_statements Undefined a p = refl
 two_statements Turns a p = refl
@@ -359,40 +362,54 @@ module _ (n : ℕ) (R : Relation) (body : Statements) (d : Calls) (r : CType) (F
       subst (λ z. Sim n (Flows R r) (Begun R (Shared InMemory o.name o.ty l.ty) scope ks) F (p >> k) (on_next z (sequence s d))) (sym e)
       (some_sim (λ mark. Scope R (Shared InMemory o.name o.ty l.ty ∷ scope) (inner mark ks)) F (p >> k) (sequence s d) later)))
 
-  pub headed_sim : (os ms : List Object) (s rest : Statements) (h : Headed n R body d os ms s rest) (scope : List Carried) (ks : Marks) (vs ws : List Value) → AreKnown body os ms vs ws scope ks
-      → NamesDiffer body os ms → Arguments R (types_of os) vs ws
-      → ((all : Marks) → ((i : ℕ) → all (locals n R body d os ms s rest h + i) ≡ ks i) → Sim n (Flows R r) (Scope R (with_locals n R body d os ms s rest h scope) all) F k (sequence rest d))
+  -- what is asked behind the heads, and what it is behind a parameter of one kind
+  abbrev Goes : ℕ → List Carried → Statements → Marks → Type 0
+  Goes count scope rest ks = (all : Marks) → ((i : ℕ) → all (count + i) ≡ ks i) → Sim n (Flows R r) (Scope R scope all) F k (sequence rest d)
+
+  goes_apart : (o l : Object) (os ls : List Object) (scope : List Carried) (ks : Marks) (rest : Statements) → takes_statements o.name body ≡ false
+      → Goes (how_many body (o ∷ os)) (with_locals body (o ∷ os) (l ∷ ls) scope) rest ks → Goes (how_many body os) (with_locals body os ls scope) rest ks
+  goes_apart o l os ls scope ks rest e goes all kept =
+      subst (λ b. Goes (one_if body b + how_many body os) (with_locals body os ls (if b then Shared InMemory o.name o.ty l.ty ∷ scope else scope)) rest ks) e goes all
+      (λ i. ap all (none_more (how_many body os) i) ∙ kept i)
+
+  goes_in_memory : (o l : Object) (os ls : List Object) (scope : List Carried) (ks : Marks) (rest : Statements) (mark : Mark) → takes_statements o.name body ≡ true
+      → Goes (how_many body (o ∷ os)) (with_locals body (o ∷ os) (l ∷ ls) scope) rest ks
+      → Goes (how_many body os) (with_locals body os ls (Shared InMemory o.name o.ty l.ty ∷ scope)) rest (inner mark ks)
+  goes_in_memory o l os ls scope ks rest mark e goes all kept =
+      subst (λ b. Goes (one_if body b + how_many body os) (with_locals body os ls (if b then Shared InMemory o.name o.ty l.ty ∷ scope else scope)) rest ks) e goes all
+      (λ i. ap all (one_more (how_many body os) i) ∙ kept (suc i))
+
+  pub headed_sim : (os ms ls : List Object) (s rest : Statements) → Headed n R body d os ms ls s rest → (scope : List Carried) (ks : Marks) (vs ws : List Value)
+      → AreKnown body os ms vs ws scope ks → NamesDiffer body os ms → Arguments R (types_of os) vs ws → Goes (how_many body os) (with_locals body os ls scope) rest ks
       → Sim n (Flows R r) (Scope R scope ks) F (begin_blocks body os vs >> k) (sequence s d)
-  headed_sim _ _ _ _ (NoHeads rest) scope ks [] [] known names a goes = goes ks (λ i. ap ks (zero-add i))
-  headed_sim _ _ _ _ (ApartHead o m os ms s rest e h) scope ks (v ∷ vs) (w ∷ ws) known names a goes =
+  headed_sim _ _ _ _ _ (NoHeads rest) scope ks [] [] known names a goes = goes ks (λ i. ap ks (zero-add i))
+  headed_sim _ _ _ _ _ (ApartHead o m os ms ls s rest e h) scope ks (v ∷ vs) (w ∷ ws) known names a goes =
       subst (λ b. Sim n (Flows R r) (Scope R scope ks) F (((if b then begin_parameter body o v else pure tt) >> begin_blocks body os vs) >> k) (sequence s d)) (sym e)
-      (headed_sim os ms s rest h scope ks vs ws known.1 names.1 a.1 goes)
-  headed_sim _ _ _ _ (SetHead o m l os ms s rest p ty is set h) scope ks (v ∷ vs) (w ∷ ws) known names a goes =
+      (headed_sim os ms ls s rest h scope ks vs ws known.1 names.1 a.1 (goes_apart o m os ls scope ks rest e goes))
+  headed_sim _ _ _ _ _ (SetHead o m l os ms ls s rest p ty is set h) scope ks (v ∷ vs) (w ∷ ws) known names a goes =
       subst (λ b. Sim n (Flows R r) (Scope R scope ks) F (((if b then begin_parameter body o v else pure tt) >> begin_blocks body os vs) >> k) (sequence (Then (Declare (l ∷ [])) s) d)) (sym is.takes)
       (headed scope ks o l v (act (Declare (l ∷ [])) (λ x. takes_statements x s) d) (begin_blocks body os vs) s
       (set_head_sim n R body d scope ks o l m v w is.same is.takes is.covers is.other is.plain (known.0 is.takes) (λ x. takes_statements x s) p ty is.inside set.init set.bytes a.0)
-      (λ mark. headed_sim os ms s rest h (Shared InMemory o.name o.ty l.ty ∷ scope) (inner mark ks) vs ws
-      (all_further body os ms vs ws scope ks InMemory o.name o.ty l.ty mark names.0 known.1) names.1 a.1
-      (λ all kept. goes all (λ i. ap all (further (locals n R body d os ms s rest h) i) ∙ kept (suc i)))))
-  headed_sim _ _ _ _ (StoreHead o m l os ms s rest p q t ty tz tu store align is stored h) scope ks (v ∷ vs) (w ∷ ws) known names a goes =
-      let run = Run (Node p ty (Call store (More (Node q tz (Name l.name)) (More (Node t tu (Name m.name)) NoTrees)))) in
+      (λ mark. headed_sim os ms ls s rest h (Shared InMemory o.name o.ty l.ty ∷ scope) (inner mark ks) vs ws
+      (all_further body os ms vs ws scope ks InMemory o.name o.ty l.ty mark names.0 known.1) names.1 a.1 (goes_in_memory o l os ls scope ks rest mark is.takes goes)))
+  headed_sim _ _ _ _ _ (StoreHead o m l os ms ls s rest p q t ty tz tu store align is fill h) scope ks (v ∷ vs) (w ∷ ws) known names a goes =
+      let run = Run (stored p q t ty tz tu store l m) in
       let behind : Later = λ x. takes_statements x s in
       subst (λ b. Sim n (Flows R r) (Scope R scope ks) F (((if b then begin_parameter body o v else pure tt) >> begin_blocks body os vs) >> k) (sequence (Then (Declare (l ∷ [])) (Then run s)) d)) (sym is.takes)
       (second_as (λ y. two_statements (act (Declare (l ∷ [])) (λ x. takes_statements x (Then run s)) d y) (act run behind d) (sequence s d))
       (headed scope ks o l v (act (Declare (l ∷ [])) (λ x. takes_statements x (Then run s)) d >>= (λ f. on_next f (act run behind d))) (begin_blocks body os vs) s
       (store_head_sim n R body d scope ks o l m v w is.same is.takes is.covers is.other is.plain (known.0 is.takes) (λ x. takes_statements x (Then run s)) behind p q t ty tz tu store align is.inside
-      stored.init stored.list stored.constant stored.array stored.aligned stored.divides (stored.fills v w a.0))
-      (λ mark. headed_sim os ms s rest h (Shared InMemory o.name o.ty l.ty ∷ scope) (inner mark ks) vs ws
-      (all_further body os ms vs ws scope ks InMemory o.name o.ty l.ty mark names.0 known.1) names.1 a.1
-      (λ all kept. goes all (λ i. ap all (further (locals n R body d os ms s rest h) i) ∙ kept (suc i))))))
-  headed_sim _ _ _ _ (NoHeads rest) scope ks (v ∷ vs) ws known names a goes = absurd a
-  headed_sim _ _ _ _ (NoHeads rest) scope ks [] (w ∷ ws) known names a goes = absurd a
-  headed_sim _ _ _ _ (ApartHead o m os ms s rest e h) scope ks [] ws known names a goes = absurd a
-  headed_sim _ _ _ _ (ApartHead o m os ms s rest e h) scope ks (v ∷ vs) [] known names a goes = absurd a
-  headed_sim _ _ _ _ (SetHead o m l os ms s rest p ty is set h) scope ks [] ws known names a goes = absurd a
-  headed_sim _ _ _ _ (SetHead o m l os ms s rest p ty is set h) scope ks (v ∷ vs) [] known names a goes = absurd a
-  headed_sim _ _ _ _ (StoreHead o m l os ms s rest p q t ty tz tu store align is stored h) scope ks [] ws known names a goes = absurd a
-  headed_sim _ _ _ _ (StoreHead o m l os ms s rest p q t ty tz tu store align is stored h) scope ks (v ∷ vs) [] known names a goes = absurd a
+      fill.init fill.list fill.constant fill.array fill.aligned fill.divides (fill.fills v w a.0))
+      (λ mark. headed_sim os ms ls s rest h (Shared InMemory o.name o.ty l.ty ∷ scope) (inner mark ks) vs ws
+      (all_further body os ms vs ws scope ks InMemory o.name o.ty l.ty mark names.0 known.1) names.1 a.1 (goes_in_memory o l os ls scope ks rest mark is.takes goes))))
+  headed_sim _ _ _ _ _ (NoHeads rest) scope ks (v ∷ vs) ws known names a goes = absurd a
+  headed_sim _ _ _ _ _ (NoHeads rest) scope ks [] (w ∷ ws) known names a goes = absurd a
+  headed_sim _ _ _ _ _ (ApartHead o m os ms ls s rest e h) scope ks [] ws known names a goes = absurd a
+  headed_sim _ _ _ _ _ (ApartHead o m os ms ls s rest e h) scope ks (v ∷ vs) [] known names a goes = absurd a
+  headed_sim _ _ _ _ _ (SetHead o m l os ms ls s rest p ty is set h) scope ks [] ws known names a goes = absurd a
+  headed_sim _ _ _ _ _ (SetHead o m l os ms ls s rest p ty is set h) scope ks (v ∷ vs) [] known names a goes = absurd a
+  headed_sim _ _ _ _ _ (StoreHead o m l os ms ls s rest p q t ty tz tu store align is fill h) scope ks [] ws known names a goes = absurd a
+  headed_sim _ _ _ _ _ (StoreHead o m l os ms ls s rest p q t ty tz tu store align is fill h) scope ks (v ∷ vs) [] known names a goes = absurd a
 
 -- ---- the other parameters are known once all have begun
 
@@ -456,13 +473,12 @@ as_long R (o ∷ os) (v ∷ vs) [] h = absurd h
 module _ (n : ℕ) (R : Relation) (tables others : List Binding) (f g : Definition) (c d : Calls) where
   -- A call of a function whose parameters in memory are written so. What is asked is that the bodies are alike, behind the heads of the written one, with an object
   -- of both in memory for each such parameter, and the other parameters as added objects behind them.
-  pub headed_call : (scope : List Carried) (ks : Marks) (F : Objects) (rest : Statements) (h : Headed n R f.body d f.params g.params g.body rest) → Scope R scope ks tables others → AreSteady c
-      → AreDistinct f.params → AreEntered f.body g.body f.params g.params → AreDistinct g.params → NamesDiffer f.body f.params g.params → (f.result ≡ CType.Void → g.result ≡ CType.Void)
-      → ((vs ws : List Value) (all : Marks) → Arguments R (types_of f.params) vs ws
-      → ((i : ℕ) → all (locals n R f.body d f.params g.params g.body rest h + i) ≡ entered_marks f.body f.params vs ws ks i)
-      → Sim n (Flows R f.result) (Scope R (with_locals n R f.body d f.params g.params g.body rest h (entered f.body f.params g.params scope)) all) F (sequence f.body c) (sequence rest d))
+  pub headed_call : (scope : List Carried) (ks : Marks) (F : Objects) (ls : List Object) (rest : Statements) → Headed n R f.body d f.params g.params ls g.body rest → Scope R scope ks tables others
+      → AreSteady c → AreDistinct f.params → AreEntered f.body g.body f.params g.params → AreDistinct g.params → NamesDiffer f.body f.params g.params → (f.result ≡ CType.Void → g.result ≡ CType.Void)
+      → ((vs ws : List Value) (all : Marks) → Arguments R (types_of f.params) vs ws → ((i : ℕ) → all (how_many f.body f.params + i) ≡ entered_marks f.body f.params vs ws ks i)
+      → Sim n (Flows R f.result) (Scope R (with_locals f.body f.params ls (entered f.body f.params g.params scope)) all) F (sequence f.body c) (sequence rest d))
       → CallsAlike n R (types_of f.params) f.result (call_of tables f c) (call_of others g d)
-  headed_call scope ks F rest h in_scope steady distinct enters differ names void goes = record {
+  headed_call scope ks F ls rest h in_scope steady distinct enters differ names void goes = record {
     by = λ vs ws s t a k.
         let l = as_long R f.params vs ws a in
         let start : State = record s { objects = tables } in
@@ -472,7 +488,7 @@ module _ (n : ℕ) (R : Relation) (tables others : List Binding) (f g : Definiti
         let both : Sim n (Given R f.result) (Scope R scope ks) F (in_order f c vs) (begin_parameters g.body g.params ws >> (sequence g.body d >>= result g.result)) =
             bind_same (entered_parameters_sim n R f.body g.body scope ks f.params g.params vs ws enters a) (λ u.
             first_as (λ y. sym (then_assoc (begin_blocks f.body f.params vs y) (λ _. sequence f.body c) (λ x. result f.result x)))
-            (bind_sim (headed_sim n R f.body d f.result F (sequence f.body c) f.params g.params g.body rest h inside marks vs ws
+            (bind_sim (headed_sim n R f.body d f.result F (sequence f.body c) f.params g.params ls g.body rest h inside marks vs ws
             (are_known f.body g.body f.params g.params vs ws scope ks enters differ l.first l.second) names a (λ all kept. goes vs ws all a kept))
             (λ x y z. result_sim n R F f.result g.result x y void z))) in
         subst (λ o. Ends (Given R f.result) (Back n s t) o (call_of others g d ws t)) (sym (called_in_order tables f c vs s steady distinct l.paired))
