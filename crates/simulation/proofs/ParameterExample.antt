@@ -7,18 +7,15 @@ use Rattle.c_text.specs.declared.tokens.Place.{Place}
 use Rattle.lane_core.specs.declared.number.IntType.TheVariants as int
 use Rattle.lane_core.specs.declared.vector.NeonLane.TheVariants.{U8}
 use Rattle.lane_core.specs.declared.vector.Pointee.TheVariants as target
-use Rattle.lane_core.specs.Register.{IsRegister}
 use Rattle.scalar_core.specs.Numbers.{num_of}
 use Rattle.scalar_core.specs.TwosComplement.{wrapped, value_of_bits, bits_of}
 use Rattle.c_tree.specs.declared.types.CType.{CType}
-use Rattle.c_tree.specs.Tree.{Tree, Node, Const, Name, Address, Call, NoTrees, More, Object, Statements, Declare, Run, Return, NoStatements, Then, Definition, External, Function}
+use Rattle.c_tree.specs.Tree.{Tree, Node, Const, Name, Address, Call, NoTrees, More, Object, Statements, Declare, Run, Return, NoStatements, Then, Definition, Function}
 use Rattle.address_taken.specs.Addressed.{takes_statements}
 use Rattle.c_memory.specs.declared.memory.Pointer.TheVariants.{At}
 use Rattle.c_memory.specs.declared.value.Value.{Value}
 use Rattle.c_memory.specs.Matching.{written_type}
-use Rattle.c_memory.specs.Memory.{after_write}
 use Rattle.c_memory.specs.Written.{NoItems, AndFunction, DoesTheSame}
-use Rattle.c_memory.specs.MeaningState.{Binding, State, then_do, pure, to_memory}
 use Rattle.c_memory.specs.Meaning.{Calls, its_value, expression, sequence, with_function}
 use Rattle.simulation.specs.Alike.{Flows, Given, Covers, Objects, Sim}
 use Rattle.simulation.specs.Carried.{Fixed, InMemory, Carried, Shared, Added, Marks, Scope, Within}

@@ -1,21 +1,20 @@
 -- Laws of a function whose parameters in memory are written as others apart from memory: objects at the head of the written body stand for them. So a block that the
 -- source fills with its argument, as a vector's, may be filled by a store. The blocks begin in the same order in both units.
-use Rattle.std.proofs.Common.{◌≡◌, ℕ, suc, ◌+◌, ◌≤◌, ◌%◌, ◌==◌, List, [], ◌∷◌, length, Bool, true, false, not, ◌||◌, Option, Some, None, refl, sym, ap, ◌∙◌, subst, arith, zero-add, slice_get, if◌then◌else◌}
+use Rattle.std.proofs.Common.{◌≡◌, ℕ, suc, ◌+◌, ◌≤◌, ◌%◌, ◌==◌, List, [], ◌∷◌, length, Bool, true, false, not, Some, None, refl, sym, ap, ◌∙◌, subst, arith, zero-add, if◌then◌else◌}
 use Rattle.std.specs.Str.{bytes_eq}
 use Rattle.std.proofs.lemmas.Slice.Eq.{bytes_eq-Decides}
 use Rattle.c_text.specs.declared.tokens.Place.{Place}
 use Rattle.c_tree.specs.declared.types.CType.{CType}
 use Rattle.c_tree.specs.Types.{is_array}
-use Rattle.c_tree.specs.Tree.{Tree, Node, Name, Call, NoTrees, More, Object, Statements, Declare, Run, NoStatements, Then, Definition}
+use Rattle.c_tree.specs.Tree.{Tree, Node, Name, Call, NoTrees, More, Object, Statements, Declare, Run, Then, Definition}
 use Rattle.address_taken.specs.Addressed.{takes_statements}
-use Rattle.c_memory.specs.declared.blocks.Block.{Block}
 use Rattle.c_memory.specs.declared.memory.Pointer.TheVariants.{At}
 use Rattle.c_memory.specs.declared.value.Value.{Value}
 use Rattle.c_memory.specs.Functions.{types_of}
 use Rattle.c_memory.specs.Memory.{after_write}
 use Rattle.c_memory.specs.MeaningObjects.{encoded, unset_bytes, is_const}
 use Rattle.c_memory.specs.MeaningState.{Apart, InBlock, Binding, State, Out, Done, Turns, Undefined, Does, then_do, ◌>>=◌, ◌>>◌, pure, defined, to_memory, found}
-use Rattle.c_memory.specs.Meaning.{Calls, expression, values, object_value, fill, begin_object, begin_parameter, begin_parameters, initialised, Later, declare_one, Flow, Next, Broke, Continued, Returned, on_next, act, sequence, result, back_to, call_of}
+use Rattle.c_memory.specs.Meaning.{Calls, expression, values, object_value, fill, begin_object, begin_parameter, begin_parameters, initialised, Later, declare_one, Flow, Next, Broke, Continued, Returned, on_next, act, sequence, result, call_of}
 use Rattle.simulation.specs.Alike.{Relation, Arguments, Flows, Given, Covers, Objects, Alike, After, Ends, Sim, Back, CallsAlike}
 use Rattle.simulation.specs.Carried.{Way, Fixed, InMemory, Carried, Shared, Added, Halved, Mark, Marks, Unmarked, Values, Number, AddedAt, Scope, Begun, inner, outer, is_named, carried, mark_of}
 use Rattle.simulation.specs.BlockLaws.{stays_same}
@@ -239,12 +238,12 @@ module _ (n : ℕ) (R : Relation) (body : Statements) (d : Calls) (scope : List 
         → Sim n GoesOn (Scope R scope ks) begun (begin_parameter body o v) (act (Declare (l ∷ [])) later d)
     set_head_sim later p ty inside init bytes h =
         let core : Sim n ◌≡◌ (Scope R scope ks) begun (begin_parameter body o v) (declare_one l later d) =
-            begin_block_then R scope ks ◌≡◌ begun o l (takes_statements o.name body) (in_block l later) (gets o.name v) (initialised l l.init l.list d) same takes inside covers (λ k s t al last.
-            let is : initialised l l.init l.list d t ≡ gets l.name w t =
-                ap (λ (q : Does (Unit {0})). q t) (initialised_some l l.init l.list (Node p ty (Name m.name)) d init)
-                ∙ ap (λ z. then_do (then_do z defined) (λ x. gets l.name x)) (value_read k s t p ty al) in
-            weaker_ends n ◌≡◌ (place k) begun t _ _ (in_begun k)
-            (subst (λ z. Ends ◌≡◌ (After n (place k) t) (gets o.name v s) z) (sym is) (first_block_ends n R scope ks o l same k v w s t (first_block l) bytes h al last refl))) in
+        begin_block_then R scope ks ◌≡◌ begun o l (takes_statements o.name body) (in_block l later) (gets o.name v) (initialised l l.init l.list d) same takes inside covers (λ k s t al last.
+        let is : initialised l l.init l.list d t ≡ gets l.name w t =
+        ap (λ (q : Does (Unit {0})). q t) (initialised_some l l.init l.list (Node p ty (Name m.name)) d init)
+        ∙ ap (λ z. then_do (then_do z defined) (λ x. gets l.name x)) (value_read k s t p ty al) in
+        weaker_ends n ◌≡◌ (place k) begun t _ _ (in_begun k)
+        (subst (λ z. Ends ◌≡◌ (After n (place k) t) (gets o.name v s) z) (sym is) (first_block_ends n R scope ks o l same k v w s t (first_block l) bytes h al last refl))) in
         record { by = λ s t e. wrapped (After n begun t) tt (begin_parameter body o v s) (declare_one l later d t) (core.by s t e) }
 
     -- it isn't set, and a store writes the value to it
@@ -258,16 +257,16 @@ module _ (n : ℕ) (R : Relation) (body : Statements) (d : Calls) (scope : List 
         (begin_block_then R scope ks GoesOn begun o l (takes_statements o.name body) (in_block l later) (gets o.name v) run same takes inside covers (λ k s t al last.
         let f = found_front R o.name o.ty l.ty k scope ks s.objects t.objects al.objects in
         let first : gets o.name v s ≡ fill k fills.bytes s =
-            gets_in_block o.name o.ty k v f.b s f.found_first f.front.ty f.front.location ∙ ap (λ z. then_do (defined z s) (fill k)) fills.are in
+        gets_in_block o.name o.ty k v f.b s f.found_first f.front.ty f.front.location ∙ ap (λ z. then_do (defined z s) (fill k)) fills.are in
         let address : expression (Node q tz (Name l.name)) d t ≡ Done (Some (Value.At (At k 0))) t =
-            array_read l.name l.ty f.c k t (ap (λ x. found x t.objects) same ∙ f.found_second) f.front.other_ty array f.front.other_location in
+        array_read l.name l.ty f.c k t (ap (λ x. found x t.objects) same ∙ f.found_second) f.front.other_ty array f.front.other_location in
         let second : run t ≡ then_do (then_do (to_memory (λ z. after_write z (At k 0) align fills.bytes) t) (λ u. pure None)) (λ x. pure Next) =
-            ap (λ z. then_do z (λ x. pure Next)) (two_values d store (Node q tz (Name l.name)) (Node r tu (Name m.name)) t (Value.At (At k 0)) w address (value_read k s t r tu al) ∙ fills.stores k t) in
+        ap (λ z. then_do z (λ x. pure Next)) (two_values d store (Node q tz (Name l.name)) (Node r tu (Name m.name)) t (Value.At (At k 0)) w address (value_read k s t r tu al) ∙ fills.stores k t) in
         let may : MayFill (first_block l) align fills.bytes = record { alive = refl; writable = ap not constant; size = fills.size; aligned = aligned; divides = divides } in
         weaker_ends n GoesOn (place k) begun t _ _ (in_begun k)
         (subst (λ z. Ends GoesOn (After n (place k) t) z (run t)) (sym first) (subst (λ z. Ends GoesOn (After n (place k) t) (fill k fills.bytes s) z) (sym second)
         (wrapped (After n (place k) t) None (fill k fills.bytes s) (to_memory (λ z. after_write z (At k 0) align fills.bytes) t)
-        (fill_store_ends n (place k) k align fills.bytes s t (first_block l) al last may fills.first)))))) 
+        (fill_store_ends n (place k) k align fills.bytes s t (first_block l) al last may fills.first))))))
 
 -- ---- all of them
 
@@ -486,11 +485,11 @@ module _ (n : ℕ) (R : Relation) (tables others : List Binding) (f g : Definiti
         let inside = entered f.body f.params g.params scope in
         let marks = entered_marks f.body f.params vs ws ks in
         let both : Sim n (Given R f.result) (Scope R scope ks) F (in_order f c vs) (begin_parameters g.body g.params ws >> (sequence g.body d >>= result g.result)) =
-            bind_same (entered_parameters_sim n R f.body g.body scope ks f.params g.params vs ws enters a) (λ u.
-            first_as (λ y. sym (then_assoc (begin_blocks f.body f.params vs y) (λ _. sequence f.body c) (λ x. result f.result x)))
-            (bind_sim (headed_sim n R f.body d f.result F (sequence f.body c) f.params g.params ls g.body rest h inside marks vs ws
-            (are_known f.body g.body f.params g.params vs ws scope ks enters differ l.first l.second) names a (λ all kept. goes vs ws all a kept))
-            (λ x y z. result_sim n R F f.result g.result x y void z))) in
+        bind_same (entered_parameters_sim n R f.body g.body scope ks f.params g.params vs ws enters a) (λ u.
+        first_as (λ y. sym (then_assoc (begin_blocks f.body f.params vs y) (λ _. sequence f.body c) (λ x. result f.result x)))
+        (bind_sim (headed_sim n R f.body d f.result F (sequence f.body c) f.params g.params ls g.body rest h inside marks vs ws
+        (are_known f.body g.body f.params g.params vs ws scope ks enters differ l.first l.second) names a (λ all kept. goes vs ws all a kept))
+        (λ x y z. result_sim n R F f.result g.result x y void z))) in
         subst (λ o. Ends (Given R f.result) (Back n s t) o (call_of others g d ws t)) (sym (called_in_order tables f c vs s steady distinct l.paired))
         (back_ends n R f.result F s t start other (in_order f c vs start) ((begin_parameters g.body g.params ws >> (sequence g.body d >>= result g.result)) other) k.0 refl
         (both.by start other (record { objects = in_scope; memory = k.0; left = k.1 })));

@@ -1,28 +1,23 @@
 -- The order in which objects of different names came into scope doesn't count: what a body does, it does with the outermost objects in another order too.
-use Rattle.std.proofs.Common.{◌≡◌, ℕ, zero, suc, ◌+◌, ◌-◌, ◌≤◌, List, [], ◌∷◌, ◌++◌, length, drop, Bool, true, false, not, ◌||◌, Option, Some, None, refl, sym, ap, ◌∙◌, subst, arith, if◌then◌else◌}
+use Rattle.std.proofs.Common.{◌≡◌, ℕ, zero, suc, ◌+◌, ◌-◌, ◌≤◌, List, [], ◌∷◌, ◌++◌, length, drop, Bool, true, false, Option, Some, None, refl, sym, ap, ◌∙◌, subst, arith, if◌then◌else◌}
 use Rattle.std.specs.Prelude.{option_map}
-use Rattle.std.specs.Option.{option_and_then}
 use Rattle.std.specs.Str.{bytes_eq}
 use Rattle.std.proofs.lemmas.List.{length-append}
 use Rattle.std.proofs.lemmas.Slice.Eq.{bytes_eq-Decides}
 use Rattle.lane_core.specs.declared.number.BinOp.{BinOp}
 use Rattle.c_tree.specs.declared.types.CType.{CType}
-use Rattle.c_tree.specs.Types.{is_array}
 use Rattle.c_tree.specs.Tree.{Tree, Kind, Trees, Node, Const, Name, Unary, Step, Binary, AndThen, OrElse, Choice, Assign, Comma, Cast, Index, Deref, Address, Call, Half, PairOf, SizeOfType, SizeOfName, Str, NoTrees, More}
 use Rattle.c_tree.specs.Tree.{Object, Statement, Statements, Optional, Declare, Run, Block, If, While, DoWhile, For, Break, Continue, Return, Empty, Absent, Present, NoStatements, Then, Definition}
-use Rattle.address_taken.specs.Addressed.{takes_optional, takes_declared, takes_statement, takes_statements}
 use Rattle.c_memory.specs.declared.blocks.Block.{Block as MemoryBlock}
-use Rattle.c_memory.specs.declared.memory.Pointer.TheVariants.{At, Null}
 use Rattle.c_memory.specs.declared.value.Value.{Value}
 use Rattle.c_memory.specs.Memory.{ended_from}
-use Rattle.c_memory.specs.MeaningValues.{operate, converted_value, next}
-use Rattle.c_memory.specs.MeaningObjects.{encoded, unset_bytes, block_of, is_const, array_bytes, Target, Named, HalfNamed, There, half_named, value_named, value_at, load, read_target, set_half, set_target, target_of}
+use Rattle.c_memory.specs.MeaningObjects.{encoded, Target, Named, HalfNamed, There, value_at, read_target, set_half, set_target}
 use Rattle.c_memory.specs.MeaningState.{Location, Apart, Halves, InBlock, Binding, State, Out, Done, Turns, Undefined, Does, then_do, ◌>>=◌, ◌>>◌, pure, undefined, defined, from_memory, to_memory}
-use Rattle.c_memory.specs.MeaningState.{found, object_of, changed, change, half_at, spend_from, spend, leave, scoped}
+use Rattle.c_memory.specs.MeaningState.{found, object_of, changed, change, spend_from, spend, leave, scoped}
 use Rattle.c_memory.specs.Meaning.{Calls, type_of, name_in, its_value, give, condition, choose, array_value, object_value, there, address, cast_to, assigned, assigned_by, step, half_target, half_of, half_expression, pair_of}
-use Rattle.c_memory.specs.Meaning.{size_value, element, element_of, pointed, expression, kind_expression, target, kind_target, last, values, begin_object, filled, fill, first_value, first_bytes, initialised, Later, declare_one, declare}
-use Rattle.c_memory.specs.Meaning.{Flow, Next, Broke, Continued, Returned, on_next, on_loop, loops, loops_after, then_step, with_step, optional_condition, optional_value, returned, no_more, act, optional_act, optional_body, sequence}
-use Rattle.c_memory.specs.Meaning.{result, back_to, call_of, spend_for, is_helper, with_function}
+use Rattle.c_memory.specs.Meaning.{element_of, pointed, expression, kind_expression, target, kind_target, last, values, begin_object, fill, first_value, first_bytes, initialised, Later, declare}
+use Rattle.c_memory.specs.Meaning.{Flow, Next, Broke, Continued, Returned, on_next, on_loop, loops, loops_after, then_step, optional_condition, optional_value, returned, no_more, act, optional_act, optional_body, sequence}
+use Rattle.c_memory.specs.Meaning.{result, back_to, call_of, is_helper, with_function}
 use Rattle.c_memory.specs.MeaningRows.{RowTable, row_done, row_result, found_call, call_of_row}
 
 -- ---- objects in another order

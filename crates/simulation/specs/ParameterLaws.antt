@@ -1,7 +1,6 @@
 -- Laws of parameters that begin alike where some of them are in memory in both units, under the same names.
-use Rattle.std.proofs.Common.{◌≡◌, ℕ, suc, ◌+◌, List, [], ◌∷◌, length, Bool, true, false, refl, sym, ap, ◌∙◌, arith}
+use Rattle.std.proofs.Common.{◌≡◌, ℕ, suc, ◌+◌, List, [], ◌∷◌, length, Bool, true, false, refl, ap, ◌∙◌, arith}
 use Rattle.std.proofs.Common.{zero-add}
-use Rattle.c_tree.specs.declared.types.CType.{CType}
 use Rattle.c_tree.specs.Tree.{Object, Statements}
 use Rattle.c_memory.specs.declared.value.Value.{Value}
 use Rattle.c_memory.specs.Functions.{types_of}
@@ -9,7 +8,7 @@ use Rattle.c_memory.specs.MeaningState.{Binding, Does}
 use Rattle.c_memory.specs.Meaning.{begin_parameter, begin_parameters}
 use Rattle.address_taken.specs.Addressed.{takes_statements}
 use Rattle.simulation.specs.Alike.{Relation, Arguments, Covers, Objects, Sim}
-use Rattle.simulation.specs.Carried.{Way, Fixed, InMemory, Carried, Shared, Mark, Marks, Unmarked, Scope, Begun, inner}
+use Rattle.simulation.specs.Carried.{Way, Fixed, InMemory, Carried, Shared, Marks, Unmarked, Scope, Begun, inner}
 use Rattle.simulation.specs.Steps.{weaker, bind_same, pure_sim}
 use Rattle.simulation.specs.ObjectLaws.{first_block, some_sim}
 use Rattle.simulation.specs.DeclareLaws.{FirstBytes, block_parameter_sim}
