@@ -13,3 +13,4 @@ mod Fixed
 mod FixedObjects
 mod FixedStatements
 mod FixedUnits
+mod Standing

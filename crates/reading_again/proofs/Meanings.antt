@@ -318,7 +318,7 @@ same_constant_bytes d (Some e) (Some all) = rw (same_value e) refl
 same_constant_bytes d None (Some all) = same_array d.ty all
 same_constant_bytes d None None = refl
 
-same_table_block : (d : Object) → table_block (unplaced_object d) ≡ table_block d
+pub same_table_block : (d : Object) → table_block (unplaced_object d) ≡ table_block d
 same_table_block d = rw (same_alignment d.align, same_constant_bytes d d.init d.list) refl
 
 same_blocks : (u : List External) → table_blocks (unit places u) ≡ table_blocks u

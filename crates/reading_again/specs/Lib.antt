@@ -3,3 +3,4 @@ pub mod Unplaced
 pub mod Answers
 pub mod Plain
 pub mod Left
+pub mod Standing

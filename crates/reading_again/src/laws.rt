@@ -2,11 +2,13 @@
 
 ghost use Rattle.std.specs.Prelude.{◌≡◌, ℕ, Bool, List, Ok};
 ghost use Rattle.c_text.specs.declared.tokens.Dialect.{Dialect};
+ghost use Rattle.c_tree.specs.declared.types.CType.{CType};
 ghost use Rattle.c_tree.specs.Same.{Same, stripped};
 ghost use Rattle.c_tree.specs.Tree.{Tree, Object, Statement, Definition, External};
 ghost use Rattle.c_memory.specs.declared.blocks.Block.{Block};
 ghost use Rattle.c_memory.specs.declared.value.Value.{Value};
 ghost use Rattle.c_memory.specs.Meaning.{Calls, means};
+ghost use Rattle.c_memory.specs.Written.{UnitsMatch, DoesTheSame};
 ghost use Rattle.scopes.specs.Scopes.{Env};
 ghost use Rattle.expression_types.specs.Check.{check};
 ghost use Rattle.object_types.specs.Objects.{check_object};
@@ -17,6 +19,7 @@ ghost use Rattle.reading_again.specs.Answers.{unplaced_answer, unplaced_unit};
 ghost use Rattle.reading_again.specs.Left.{left, left_object, SameUnits};
 ghost use Rattle.reading_again.specs.Plain.{Plain, PlainObject, PlainStatement, PlainFunction, PlainUnit};
 ghost use Rattle.reading_again.specs.Rewritten.{statement, definition};
+ghost use Rattle.reading_again.specs.Standing.{parameter_names};
 ghost use Rattle.reading_again.specs.Unplaced.{unplaced, unplaced_object, places, DifferInPlaces};
 
 /// Two units that differ in places alone, and in the side of its object's name on which an alignment stands, do the same: each call of a
@@ -44,4 +47,14 @@ pub fn same_trees_get_the_same_types()
 /// What the check gives for a unit is given back by it as it is: its casts that aren't written are looked through, and set again.
 pub fn a_typed_unit_is_given_back()
     ensures { (dialect : Dialect) (u v : List External) → PlainUnit u → check_unit dialect u ≡ Ok v → check_unit dialect v ≡ Ok v }
+{}
+
+/// A unit that differs from another in places alone stands for it: it is the same, its functions have parameters of the same names, it matches
+/// what the other matches, and it does what the other does.
+pub fn a_unit_that_differs_in_places_stands_for_it()
+    ensures same { (u v : List External) → DifferInPlaces u v → Same u v }
+    ensures names { (u v : List External) → DifferInPlaces u v → parameter_names u ≡ parameter_names v }
+    ensures matches { (written : CType → CType) (source u v : List External) → UnitsMatch written source u → DifferInPlaces u v → UnitsMatch written source v }
+    ensures does { (rows other_rows : Calls) (written : CType → CType) (source u v : List External) → DoesTheSame rows other_rows written source u → DifferInPlaces u v →
+        DoesTheSame rows other_rows written source v }
 {}

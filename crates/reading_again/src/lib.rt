@@ -4,4 +4,7 @@
 mod laws;
 
 pub use c_tree::CType;
-pub use laws::{a_typed_unit_is_given_back, places_do_not_count, same_trees_get_the_same_types};
+pub use laws::{
+    a_typed_unit_is_given_back, a_unit_that_differs_in_places_stands_for_it, places_do_not_count,
+    same_trees_get_the_same_types,
+};
