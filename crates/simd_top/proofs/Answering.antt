@@ -20,29 +20,25 @@ use Rattle.simd_top.specs.Ran.{rows, status_of}
 use Rattle.simd_top.specs.Form.{first_outside}
 use Rattle.simd_top.specs.Refusals.{at_the_start, IsRefusedUnit, Outside, Nameless, Unfit, IsRefused, First, Beyond}
 use Rattle.simd_top.specs.Source.{source_limit, HasUnit, AreFirst}
+use Rattle.simd_top.specs.Standing.{AllStand}
 use Rattle.simd_top.specs.TopCall.{Calls, IsAnswer}
 use Rattle.simd_top.specs.Words.{Command, Migrate, Run, Both, dialect_of}
 use Rattle.simd_top.specs.Written.{moved_unit}
 use Rattle.c_print.specs.Text.{text_of}
-use Rattle.round_trip.specs.Again.{ReadAgain}
-use Rattle.round_trip.specs.GoodUnits.{GoodUnit}
 use Rattle.simd_top.proofs.Same.{migrated}
 
-abbrev ReadsAgain : Type 0
-ReadsAgain = (unit : List External) → GoodUnit unit → ReadAgain unit
-
-text_calls : ReadsAgain → (c : Command) (source : List ℕ) (t : List External) (s : Status) (text : List ℕ) → HasUnit (dialect_of c) source t → IsTextOf c t s text → Calls c source s text
-text_calls read_again Migrate source t s text has (ended, form, told) = (ended, migrated read_again source text t has form told)
-text_calls read_again (Run dialect name turns items) source t s text has (args, memory, fits, ended, told) =
+text_calls : AllStand → (c : Command) (source : List ℕ) (t : List External) (s : Status) (text : List ℕ) → HasUnit (dialect_of c) source t → IsTextOf c t s text → Calls c source s text
+text_calls stand Migrate source t s text has (ended, form, told) = (ended, migrated stand source text t has form told)
+text_calls stand (Run dialect name turns items) source t s text has (args, memory, fits, ended, told) =
     record { unit = t; has_unit = has; args = args; memory = memory; fits = fits; told = told; ended = ended }
-text_calls read_again (Both name turns items) source t s text has (form, typed_unit, typed, compared) =
-    record { unit = t; written_unit = moved_unit t; typed_unit = typed_unit; has_unit = has; is_migrated = migrated read_again source (text_of (moved_unit t)) t has form refl; typed = typed; compared = compared }
+text_calls stand (Both name turns items) source t s text has (form, typed_unit, typed, compared) =
+    record { unit = t; written_unit = moved_unit t; typed_unit = typed_unit; has_unit = has; is_migrated = migrated stand source (text_of (moved_unit t)) t has form refl; typed = typed; compared = compared }
 
-pub due_answers : ReadsAgain → (c : Command) (source : List ℕ) (t : List External) (d : Due) → length source ≤ source_limit (dialect_of c) → HasUnit (dialect_of c) source t → IsDueFor c t d → IsAnswer c source d
-due_answers read_again c source t (due.Done text) within has is = text_calls read_again c source t status.Done text.items has is
-due_answers read_again c source t (due.Undefined text) within has is = text_calls read_again c source t status.Undefined text.items has is
-due_answers read_again c source t (due.Turns text) within has is = text_calls read_again c source t status.Turns text.items has is
-due_answers read_again c source t (due.Report lines) within has (r, is, told) = Beyond within t has r is told
+pub due_answers : AllStand → (c : Command) (source : List ℕ) (t : List External) (d : Due) → length source ≤ source_limit (dialect_of c) → HasUnit (dialect_of c) source t → IsDueFor c t d → IsAnswer c source d
+due_answers stand c source t (due.Done text) within has is = text_calls stand c source t status.Done text.items has is
+due_answers stand c source t (due.Undefined text) within has is = text_calls stand c source t status.Undefined text.items has is
+due_answers stand c source t (due.Turns text) within has is = text_calls stand c source t status.Turns text.items has is
+due_answers stand c source t (due.Report lines) within has (r, is, told) = Beyond within t has r is told
 
 no_refusal : (o : Outcome) → status.Refused ≡ status_of o → ⊥
 no_refusal (outcomes.Done v memory) e = absurd (cc)

@@ -16,16 +16,15 @@ use Rattle.migrate_report.specs.declared.fits.FitFail.TheVariants as fail
 use Rattle.migrate_report.specs.Lines.{refusal_lines}
 use Rattle.simd_top.specs.Compared.{FailsInOne}
 use Rattle.simd_top.specs.Form.{is_in, is_function, first_outside}
-use Rattle.c_memory.specs.Written.{FunctionsMatch}
 use Rattle.simd_top.specs.Refusals.{at_the_start, OutsideBoth, NamelessBoth, UnfitBoth}
 use Rattle.simd_top.specs.Words.{Both}
-use Rattle.simd_top.specs.Written.{moved_unit}
+use Rattle.simd_top.specs.Written.{moved_function, moved_unit}
 use Rattle.simd_top.proofs.Answering.{RefusedWith}
-use Rattle.simd_top.proofs.Bodies.{plain_registers}
+use Rattle.simd_top.proofs.Bodies.{plain_registers, moved_types}
 use Rattle.simd_top.proofs.Conjunction.{split_and}
 use Rattle.simd_top.proofs.Headings.{item_passes, heading_of}
 use Rattle.simd_top.proofs.Parameters.{AllRegisters, m128}
-use Rattle.simd_top.proofs.Same.{SameFunctions, is_read}
+use Rattle.simd_top.proofs.Same.{is_moved}
 
 argument_stays : (memory : List MemoryBlock) (item : Item) → argument memory (written_type ctypes.M128) item ≡ argument memory ctypes.M128 item
 argument_stays memory (Block align writable hex) = refl
@@ -49,35 +48,32 @@ items_stay : (ds : List Object) (o : Option (List Item)) → AllRegisters ds →
 items_stay ds None h = refl
 items_stay ds (Some items) h = memory_stays ds items (blocks_of items) h
 
-one_fits : (f g : Definition) (words : List (List ℕ)) → is_function f ≡ true → FunctionsMatch written_type f g → fit_function (Some g) words ≡ fit_function (Some f) words
-one_fits f g words h same = ap (λ ts. fit_items ts (items_of words)) same.types ∙ items_stay f.params (items_of words) (plain_registers [] f.params (heading_of f h).0)
+one_fits : (f : Definition) (words : List (List ℕ)) → is_function f ≡ true → fit_function (Some (moved_function f)) words ≡ fit_function (Some f) words
+one_fits f words h =
+    let plain = plain_registers [] f.params (heading_of f h).0 in
+    ap (λ ts. fit_items ts (items_of words)) (moved_types f.params plain) ∙ items_stay f.params (items_of words) plain
 
-fits_stay : (names : List (List ℕ)) (us vs : List External) (name : List ℕ) (words : List (List ℕ)) → first_outside names us ≡ None → SameFunctions us vs → fitting vs name words ≡ fitting us name words
-fits_stay names [] [] name words h same = refl
-fits_stay names [] (v ∷ vs) name words h same = absurd same
-fits_stay names (Function f ∷ us) [] name words h same = absurd same
-fits_stay names (Function f ∷ us) (Function g ∷ vs) name words h same =
+fits_stay : (names : List (List ℕ)) (us : List External) (name : List ℕ) (words : List (List ℕ)) → first_outside names us ≡ None → fitting (moved_unit us) name words ≡ fitting us name words
+fits_stay names [] name words h = refl
+fits_stay names (Function f ∷ us) name words h =
     let a = item_passes names (Function f) us h in
-    subst (λ x. fit_function (cond (bytes_eq name x) (Some g) (function_named name vs)) words ≡ fitting (Function f ∷ us) name words) (sym same.0.name)
-    (go (bytes_eq name f.name) (one_fits f g words (split_and (is_function f) (not (is_in names f.name)) a.0).0 same.0) (fits_stay _ us vs name words a.1 same.2))
+    go (bytes_eq name f.name) (one_fits f words (split_and (is_function f) (not (is_in names f.name)) a.0).0) (fits_stay _ us name words a.1)
   where
-    go : (b : Bool) → fit_function (Some g) words ≡ fit_function (Some f) words → fit_function (function_named name vs) words ≡ fit_function (function_named name us) words →
-        fit_function (cond b (Some g) (function_named name vs)) words ≡ fit_function (cond b (Some f) (function_named name us)) words
+    go : (b : Bool) → fit_function (Some (moved_function f)) words ≡ fit_function (Some f) words → fit_function (function_named name (moved_unit us)) words ≡ fit_function (function_named name us) words →
+        fit_function (cond b (Some (moved_function f)) (function_named name (moved_unit us))) words ≡ fit_function (cond b (Some f) (function_named name us)) words
     go true one rest = one
     go false one rest = rest
-fits_stay names (Function f ∷ us) (Table d static ∷ vs) name words h same = absurd same
-fits_stay names (Table d static ∷ us) vs name words h same = let a = item_passes names (Table d static) us h in absurd (cc)
+fits_stay names (Table d static ∷ us) name words h = let a = item_passes names (Table d static) us h in absurd (cc)
 
 -- ---- the written unit with its types
 
 pub never_refused : (t : List External) (list : List Refusal) → first_outside [] t ≡ None → check_unit Neon (moved_unit t) ≡ Err list → ⊥
-never_refused t list h e = let r = is_read t (moved_unit t) h refl in let typed = r.typed in absurd (cc)
+never_refused t list h e = let typed = (is_moved t h).written.typed in absurd (cc)
 
 same_fitting : (t v : List External) (name : List ℕ) (words : List (List ℕ)) → first_outside [] t ≡ None → check_unit Neon (moved_unit t) ≡ Ok v → fitting v name words ≡ fitting t name words
 same_fitting t v name words h e =
-    let r = is_read t (moved_unit t) h refl in
-    let same : r.typed_unit ≡ v = let typed = r.typed in cc in
-    subst (λ x. fitting x name words ≡ fitting t name words) same (fits_stay [] t r.typed_unit name words h r.same)
+    let same : moved_unit t ≡ v = let typed = (is_moved t h).written.typed in cc in
+    subst (λ x. fitting x name words ≡ fitting t name words) same (fits_stay [] t name words h)
 
 pub nameless_both : (t v : List External) (name : List ℕ) (turns : ℕ) (items : List (List ℕ)) (lines : List ℕ) → first_outside [] t ≡ None → check_unit Neon (moved_unit t) ≡ Ok v →
     FailsInOne t v name items fail.NoFunction → lines ≡ refusal_lines (at_the_start 21 name ∷ []) → RefusedWith (Both name turns items) t lines

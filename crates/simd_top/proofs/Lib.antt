@@ -14,7 +14,8 @@ mod NamesSeen
 mod Numbered
 mod Numbers
 mod Parameters
-mod ReadParameters
+mod MovedParameters
+mod ReadBack
 mod Refused
 mod Same
 mod Told

@@ -1,18 +1,16 @@
--- A unit that is read in place of the one that is written for a unit of the form has the same functions, and these do the same.
-use Rattle.std.proofs.Common.{◌≡◌, ℕ, ◌+◌, List, [], ◌∷◌, ◌++◌, map, length, Bool, true, false, cond, not, Option, Some, None, Ok, is_some, refl, sym, ◌∙◌, ap, subst, arith}
+-- The unit that is written for a unit of the form has the same functions, and these do the same.
+use Rattle.std.proofs.Common.{◌≡◌, ℕ, ◌+◌, List, [], ◌∷◌, ◌++◌, length, Bool, true, false, cond, not, Option, Some, None, Ok, is_some, refl, ◌∙◌, ap, arith}
 use Rattle.std.specs.Prelude.{find, nat_lt}
 use Rattle.std.specs.Str.{bytes_eq}
 use Rattle.std.proofs.lemmas.Bool.Decides.{nat_tests}
 use Rattle.c_text.specs.declared.tokens.Dialect.TheVariants.{X86, Neon}
 use Rattle.simd_top.specs.declared.rows.FormRow.{FormRow}
 use Rattle.c_tree.specs.Tree.{Definition, External, Function, Table}
-use Rattle.c_tree.specs.Same.{stripped_definition, stripped_external, Same}
 use Rattle.c_print.specs.Text.{text_of}
-use Rattle.round_trip.specs.Again.{ReadAgain}
-use Rattle.round_trip.specs.GoodUnits.{GoodUnit}
+use Rattle.reading_again.specs.Plain.{PlainUnit}
 use Rattle.scopes.specs.Scopes.{Callee, named}
 use Rattle.vector_types.specs.Functions.{heading_of as function_heading, with_function as with_heading, with_items, is_before, check_function}
-use Rattle.vector_types.specs.Units.{check_items, answer, check_unit}
+use Rattle.vector_types.specs.Units.{check_items, answer}
 use Rattle.c_memory.specs.declared.blocks.Block.{Block as MemoryBlock}
 use Rattle.c_memory.specs.declared.value.Value.{Value}
 use Rattle.c_memory.specs.Matching.{written_type, ArgumentsMatch}
@@ -20,12 +18,13 @@ use Rattle.c_memory.specs.MeaningState.{State, Does}
 use Rattle.c_memory.specs.Meaning.{Calls, call_of, with_function, outermost, functions, table_blocks, table_objects, outcome}
 use Rattle.c_memory.specs.Values.{AreArguments}
 use Rattle.c_memory.specs.Functions.{types_of}
-use Rattle.c_memory.specs.Written.{FunctionsMatch, UnitsMatch, NoItems, AndFunction, Follows, DoesTheSame}
+use Rattle.c_memory.specs.Written.{UnitsMatch, NoItems, AndFunction, Follows, DoesTheSame}
 use Rattle.simd_top.specs.Migrated.{parameters_of, Migrated}
 use Rattle.simd_top.specs.Rows.{neon_name, moved_row}
 use Rattle.simd_top.specs.Ran.{rows}
 use Rattle.simd_top.specs.Source.{HasUnit}
-use Rattle.simd_top.specs.Form.{is_in, is_free, is_function, names_of, first_outside}
+use Rattle.simd_top.specs.Standing.{IsTypedAsWritten, AllStand}
+use Rattle.simd_top.specs.Form.{is_in, is_free, is_function, first_outside}
 use Rattle.simd_top.specs.Written.{moved_function, moved_unit}
 use Rattle.simd_top.proofs.Conjunction.{split_and}
 use Rattle.simd_top.proofs.Values.{named as row_named, intel_call, neon_call}
@@ -33,9 +32,9 @@ use Rattle.simd_top.proofs.Good.{good_unit}
 use Rattle.simd_top.proofs.FreeNames.{other_than_intel, other_than_neon}
 use Rattle.simd_top.proofs.Headings.{item_passes, result_and_name, heading_of}
 use Rattle.simd_top.proofs.Expressions.{DoRows, HasNoRow}
-use Rattle.simd_top.proofs.ReadParameters.{Unseen, unseen_more, named_more, not_in}
+use Rattle.simd_top.proofs.MovedParameters.{Unseen, unseen_more, named_more, not_in}
 use Rattle.simd_top.proofs.Parameters.{equal}
-use Rattle.simd_top.proofs.Bodies.{outside_functions, BothDone, function_read}
+use Rattle.simd_top.proofs.Bodies.{outside_functions, BothDone, function_moves}
 
 -- ---- calls from outside
 
@@ -114,136 +113,104 @@ not_before us f i all h =
     (rw (named_more f.name f.name (record { order = i; heading = function_heading Neon f }) all, h, equal f.name) refl))
     (none_before i)
 
--- the names of functions that are read
-no_row_items : (names : List (List ℕ)) (us ws : List External) (i : ℕ) (all : List (List ℕ × Callee)) → first_outside names us ≡ None → map stripped_external ws ≡ map stripped_external (moved_unit us) → HasNoRow all → HasNoRow (with_items Neon i ws all)
-no_row_items names [] [] i all h same none = none
-no_row_items names [] (w ∷ ws) i all h same none = absurd (cc)
-no_row_items names (u ∷ us) [] i all h same none = absurd (cc)
-no_row_items names (Function f ∷ us) (Function g ∷ ws) i all h same none =
+-- the names of functions that are written
+no_row_items : (names : List (List ℕ)) (us : List External) (i : ℕ) (all : List (List ℕ × Callee)) → first_outside names us ≡ None → HasNoRow all → HasNoRow (with_items Neon i (moved_unit us) all)
+no_row_items names [] i all h none = none
+no_row_items names (Function f ∷ us) i all h none =
     let a = item_passes names (Function f) us h in
-    let one : stripped_definition g ≡ stripped_definition (moved_function f) = cc in
-    let rest : map stripped_external ws ≡ map stripped_external (moved_unit us) = cc in
-    no_row_items (names ++ f.name ∷ []) us ws (i + 1) (with_heading Neon i g all) a.1 rest
-    (λ op. go op (ap (λ d. d.name) one) (free_name f (split_and (is_function f) (not (is_in names f.name)) a.0).0) (is_some (named g.name all)))
+    no_row_items (names ++ f.name ∷ []) us (i + 1) (with_heading Neon i (moved_function f) all) a.1
+    (λ op. go op (free_name f (split_and (is_function f) (not (is_in names f.name)) a.0).0) (is_some (named f.name all)))
   where
-    go : (op : FormRow) → g.name ≡ f.name → is_free f.name ≡ true → (v : Bool) → named (neon_name (moved_row op)) (cond v all (with_one i g all)) ≡ None
-    go op name free true = none op
-    go op name free false = rw (named_more (neon_name (moved_row op)) g.name (record { order = i; heading = function_heading Neon g }) all, none op, name, other_than_neon op f.name free) refl
-no_row_items names (Function f ∷ us) (Table d static ∷ ws) i all h same none = absurd (cc)
-no_row_items names (Table d static ∷ us) (w ∷ ws) i all h same none = let a = item_passes names (Table d static) us h in absurd (cc)
+    go : (op : FormRow) → is_free f.name ≡ true → (v : Bool) → named (neon_name (moved_row op)) (cond v all (with_one i (moved_function f) all)) ≡ None
+    go op free true = none op
+    go op free false = rw (named_more (neon_name (moved_row op)) f.name (record { order = i; heading = function_heading Neon (moved_function f) }) all, none op, other_than_neon op f.name free) refl
+no_row_items names (Table d static ∷ us) i all h none = let a = item_passes names (Table d static) us h in absurd (cc)
 
 -- ---- the unit
 
--- The same functions in the same order, with parameters of the same names.
-abbrev pub SameFunctions : List External → List External → Type 0
-SameFunctions [] [] = Unit {0}
-SameFunctions (Function f ∷ fs) (Function g ∷ gs) = FunctionsMatch written_type f g × (names_of g.params ≡ names_of f.params) × SameFunctions fs gs
-SameFunctions _ _ = ⊥
+-- The unit that is written for one of the form, as far as its items behind some functions go: it has its types as it is, with the same functions, which do the
+-- same, and without tables, as the unit.
+record MovesItems (us : List External) (before : List (List ℕ × Callee)) (here : ℕ) : Type 0 where
+  typed : check_items (moved_unit us) (outside_functions before here) [] ≡ record { refusals = []; items = moved_unit us }
+  plain : PlainUnit (moved_unit us)
+  matches : UnitsMatch written_type us (moved_unit us)
+  parameters : parameters_of (moved_unit us) ≡ parameters_of us
+  all : AllDone (functions us) (functions (moved_unit us))
+  no_blocks : (table_blocks us ≡ []) × (table_blocks (moved_unit us) ≡ [])
+  no_objects : (n : ℕ) → (table_objects n us ≡ []) × (table_objects n (moved_unit us) ≡ [])
 
-units_match : (us vs : List External) → SameFunctions us vs → UnitsMatch written_type us vs
-units_match [] [] h = NoItems
-units_match (Function f ∷ us) (Function g ∷ vs) h = AndFunction f g us vs h.0 (units_match us vs h.2)
-units_match us vs h = absurd h
+one_judged : (g : Definition) (vs : List External) (before : List (List ℕ × Callee)) (here : ℕ) → check_function g (outside_functions before here) ≡ Ok g →
+    check_items vs (outside_functions before (here + 1)) [] ≡ record { refusals = []; items = vs } →
+    check_items (Function g ∷ vs) (outside_functions before here) [] ≡ record { refusals = []; items = Function g ∷ vs }
+one_judged g vs before here h k = rw (h, k) refl
 
-parameters_same : (us vs : List External) → SameFunctions us vs → parameters_of vs ≡ parameters_of us
-parameters_same [] [] h = refl
-parameters_same (Function f ∷ us) (Function g ∷ vs) h = rw (h.1, parameters_same us vs h.2) refl
-parameters_same us vs h = absurd h
-
--- What is read in place of a unit of the form, as far as its items behind some functions go. With its types it is this one: the same, with functions that are the same and do
--- the same, and without tables, as the unit.
-record ReadUnit (us ws : List External) (before : List (List ℕ × Callee)) (here : ℕ) : Type 0 where
-  items : List External
-  typed : check_items ws (outside_functions before here) [] ≡ record { refusals = []; items = items }
-  same : map stripped_external items ≡ map stripped_external ws
-  headings : SameFunctions us items
-  all : AllDone (functions us) (functions items)
-  no_blocks : table_blocks us ≡ []
-  no_blocks_read : table_blocks items ≡ []
-  no_objects : (n : ℕ) → table_objects n us ≡ []
-  no_objects_read : (n : ℕ) → table_objects n items ≡ []
-
-one_judged : (g v : Definition) (ws vs : List External) (before : List (List ℕ × Callee)) (here : ℕ) → check_function g (outside_functions before here) ≡ Ok v →
-    check_items ws (outside_functions before (here + 1)) [] ≡ record { refusals = []; items = vs } →
-    check_items (Function g ∷ ws) (outside_functions before here) [] ≡ record { refusals = []; items = Function v ∷ vs }
-one_judged g v ws vs before here h k = rw (h, k) refl
-
-items_read : (names : List (List ℕ)) (us ws : List External) (i : ℕ) (all before : List (List ℕ × Callee)) → first_outside names us ≡ None → map stripped_external ws ≡ map stripped_external (moved_unit us) →
-    before ≡ with_items Neon i ws all → Unseen names all → HasNoRow before → ReadUnit us ws before i
-items_read names [] [] i all before h same is unseen none =
-    record { items = []; typed = refl; same = refl; headings = tt; all = tt; no_blocks = refl; no_blocks_read = refl; no_objects = λ n. refl; no_objects_read = λ n. refl }
-items_read names [] (w ∷ ws) i all before h same is unseen none = absurd (cc)
-items_read names (u ∷ us) [] i all before h same is unseen none = absurd (cc)
-items_read names (Function f ∷ us) (Function g ∷ ws) i all before h same is unseen none =
+items_move : (names : List (List ℕ)) (us : List External) (i : ℕ) (all before : List (List ℕ × Callee)) → first_outside names us ≡ None → before ≡ with_items Neon i (moved_unit us) all →
+    Unseen names all → HasNoRow before → MovesItems us before i
+items_move names [] i all before h is unseen none =
+    record { typed = refl; plain = tt; matches = NoItems; parameters = refl; all = tt; no_blocks = (refl, refl); no_objects = λ n. (refl, refl) }
+items_move names (Function f ∷ us) i all before h is unseen none =
     let a = item_passes names (Function f) us h in
     let b = split_and (is_function f) (not (is_in names f.name)) a.0 in
-    let one : stripped_definition g ≡ stripped_definition (moved_function f) = cc in
-    let others : map stripped_external ws ≡ map stripped_external (moved_unit us) = cc in
-    let name : g.name ≡ f.name = ap (λ d. d.name) one in
-    let new : named g.name all ≡ None = rw name (unseen f.name (not_in (is_in names f.name) b.1)) in
-    let grows : before ≡ with_items Neon (i + 1) ws (with_one i g all) = is ∙ ap (with_items Neon (i + 1) ws) (one_with i g all new) in
-    let first : is_before (named f.name before) i ≡ false = ap (λ x. is_before (named x before) i) (sym name) ∙ ap (λ fs. is_before (named g.name fs) i) grows ∙ not_before ws g i all new in
-    let r = function_read f g before i b.0 one first none in
-    let rest = items_read (names ++ f.name ∷ []) us ws (i + 1) (with_one i g all) before a.1 others grows
-    (subst (λ x. Unseen (names ++ x ∷ []) (with_one i g all)) name (unseen_more names g.name (record { order = i; heading = function_heading Neon g }) all unseen)) none in
+    let g = moved_function f in
+    let new : named f.name all ≡ None = unseen f.name (not_in (is_in names f.name) b.1) in
+    let grows : before ≡ with_items Neon (i + 1) (moved_unit us) (with_one i g all) = is ∙ ap (with_items Neon (i + 1) (moved_unit us)) (one_with i g all new) in
+    let first : is_before (named f.name before) i ≡ false = ap (λ fs. is_before (named f.name fs) i) grows ∙ not_before (moved_unit us) g i all new in
+    let r = function_moves f before i b.0 first none in
+    let rest = items_move (names ++ f.name ∷ []) us (i + 1) (with_one i g all) before a.1 grows (unseen_more names f.name (record { order = i; heading = function_heading Neon g }) all unseen) none in
     record {
-      items = Function r.function ∷ rest.items;
-      typed = one_judged g r.function ws rest.items before i r.typed rest.typed;
-      same = rw (r.same, rest.same) refl;
-      headings = (r.heading, r.parameters, rest.headings);
-      all = (b.0, r.heading.name, r.done, rest.all);
+      typed = one_judged g (moved_unit us) before i r.typed rest.typed;
+      plain = (r.plain, rest.plain);
+      matches = AndFunction f g us (moved_unit us) r.heading rest.matches;
+      parameters = rw (r.parameters, rest.parameters) refl;
+      all = (b.0, refl, r.done, rest.all);
       no_blocks = rest.no_blocks;
-      no_blocks_read = rest.no_blocks_read;
       no_objects = rest.no_objects;
-      no_objects_read = rest.no_objects_read;
     }
-items_read names (Function f ∷ us) (Table d static ∷ ws) i all before h same is unseen none = absurd (cc)
-items_read names (Table d static ∷ us) (w ∷ ws) i all before h same is unseen none = let a = item_passes names (Table d static) us h in absurd (cc)
+items_move names (Table d static ∷ us) i all before h is unseen none = let a = item_passes names (Table d static) us h in absurd (cc)
 
 -- outcomes of that kind match
 follows : (n : ℕ) (p q : Does (Option Value)) (s : State) → BothDone p q s → Follows n (outcome (p s)) (outcome (q s))
 follows n p q s done = rw (done.first, done.second) (refl, refl)
 
-does_the_same : (us vs : List External) → AllDone (functions us) (functions vs) → table_blocks us ≡ [] → table_blocks vs ≡ [] → ((n : ℕ) → table_objects n us ≡ []) → ((n : ℕ) → table_objects n vs ≡ []) → DoesTheSame (rows X86) (rows Neon) written_type us vs
-does_the_same us vs all no_blocks no_blocks_read no_objects no_objects_read name f args others memory turns found good m =
-    rw (no_blocks_read, no_objects_read (length memory), no_blocks, no_objects (length memory))
+does_the_same : (us vs : List External) → AllDone (functions us) (functions vs) → (table_blocks us ≡ []) × (table_blocks vs ≡ []) → ((n : ℕ) → (table_objects n us ≡ []) × (table_objects n vs ≡ [])) →
+    DoesTheSame (rows X86) (rows Neon) written_type us vs
+does_the_same us vs all no_blocks no_objects name f args others memory turns found good m =
+    rw (no_blocks.1, (no_objects (length memory)).1, no_blocks.0, (no_objects (length memory)).0)
     (follows (length memory + length {A = MemoryBlock} []) (outermost [] (rows X86) (functions us) name args) (outermost [] (rows Neon) (functions vs) name others)
     (record { objects = []; memory = memory ++ []; left = turns })
     (outermost_done (functions us) (functions vs) (rows X86) (rows Neon) name f args others memory (record { objects = []; memory = memory ++ []; left = turns }) rows_done all found m.first m.same))
 
--- the unit that is read has its types, and with them it is the same and does the same
-pub record IsRead (unit again : List External) : Type 0 where
-  pub typed_unit : List External
-  pub typed : check_unit Neon again ≡ Ok typed_unit
-  pub same_unit : Same typed_unit again
-  pub same : SameFunctions unit typed_unit
-  pub does_the_same : DoesTheSame (rows X86) (rows Neon) written_type unit typed_unit
+-- The written unit can be read again, and the check gives it back as it is. It matches its source, with the same names of parameters, and does the same.
+pub record IsMoved (unit : List External) : Type 0 where
+  pub written : IsTypedAsWritten (moved_unit unit)
+  pub matches : UnitsMatch written_type unit (moved_unit unit)
+  pub parameters : parameters_of (moved_unit unit) ≡ parameters_of unit
+  pub does : DoesTheSame (rows X86) (rows Neon) written_type unit (moved_unit unit)
 
-pub is_read : (us ws : List External) → first_outside [] us ≡ None → Same ws (moved_unit us) → IsRead us ws
-is_read us ws h same =
-    let r = items_read [] us ws 0 [] (with_items Neon 0 ws []) h same refl (λ x k. refl) (no_row_items [] us ws 0 [] h same (λ op. refl)) in
+pub is_moved : (us : List External) → first_outside [] us ≡ None → IsMoved us
+is_moved us h =
+    let r = items_move [] us 0 [] (with_items Neon 0 (moved_unit us) []) h refl (λ x k. refl) (no_row_items [] us 0 [] h (λ op. refl)) in
     record {
-      typed_unit = r.items;
-      typed = ap answer r.typed;
-      same_unit = r.same;
-      same = r.headings;
-      does_the_same = does_the_same us r.items r.all r.no_blocks r.no_blocks_read r.no_objects r.no_objects_read;
+      written = record { good = good_unit [] us h; plain = r.plain; typed = ap answer r.typed };
+      matches = r.matches;
+      parameters = r.parameters;
+      does = does_the_same us (moved_unit us) r.all r.no_blocks r.no_objects;
     }
 
-pub migrated : ((unit : List External) → GoodUnit unit → ReadAgain unit) → (source text : List ℕ) (u : List External) → HasUnit X86 source u → first_outside [] u ≡ None → text ≡ text_of (moved_unit u) → Migrated source text
-migrated read_again source text u has form is =
-    let again = read_again (moved_unit u) (good_unit [] u form) in
-    let r = is_read u again.again form again.same in
+pub migrated : AllStand → (source text : List ℕ) (u : List External) → HasUnit X86 source u → first_outside [] u ≡ None → text ≡ text_of (moved_unit u) → Migrated source text
+migrated stand source text u has form is =
+    let m = is_moved u form in
+    let r = stand (moved_unit u) m.written in
     record {
       unit = u;
       written_unit = moved_unit u;
-      typed_unit = r.typed_unit;
+      typed_unit = r.read;
       has_unit = has;
       is_text = is;
-      again = again;
+      again = r.again;
       typed = r.typed;
-      same_unit = r.same_unit ∙ again.same;
-      same = units_match u r.typed_unit r.same;
-      parameters = parameters_same u r.typed_unit r.same;
-      does_the_same = r.does_the_same;
+      same_unit = r.same;
+      same = r.matches written_type u m.matches;
+      parameters = r.parameters ∙ m.parameters;
+      does_the_same = r.does (rows X86) (rows Neon) written_type u m.does;
     }

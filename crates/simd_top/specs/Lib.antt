@@ -12,3 +12,4 @@ pub mod Migrated
 pub mod Due
 pub mod TopCall
 pub mod Seen
+pub mod Standing

@@ -13,10 +13,12 @@ mod names;
 mod refusals;
 mod rows;
 mod running;
+mod standing;
 mod status;
 mod top;
 mod words;
 
 pub use comparing::both_text;
+pub use standing::what_is_read_stands_for_what_is_written;
 pub use status::Status;
 pub use top::simdmove;

@@ -10,13 +10,13 @@ ghost use Rattle.simd_top.specs.Words.{FitsForm, dialect_of};
 use crate::due::{Due, due_for};
 use crate::front::unit_of;
 use crate::refusals::line_at_the_start;
+use crate::standing::what_is_read_stands_for_what_is_written;
 use crate::status::Status;
 use crate::words::{Command, asked};
 use c_directives::expansion_numbers;
 use c_text::Dialect;
 use mig_io::{ReadFail, Sink, Source, read_all, write_all};
 use migrate_report::refusal_lines;
-use round_trip::good_units_are_read_again;
 use std::alloc::Global;
 use vector_types::CheckFail;
 
@@ -41,7 +41,7 @@ fn answer(alloc: Global, command: Command<'_>, source: &[u8]) -> Result<Due, Rea
     ensures due { IfOk result (λ due. IsAnswer (command_of command.entry) source.now due) }
     ensures memory_alone { OnErr result (result ≡ Err ReadFail.Memory) }
 {
-    good_units_are_read_again();
+    what_is_read_stands_for_what_is_written();
     match unit_of(alloc, command.dialect(), source) {
         Ok(unit) => {
             let due = due_for(alloc, command, &unit)?;

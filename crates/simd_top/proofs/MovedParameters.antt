@@ -1,17 +1,16 @@
--- The parameters of a function that is read in place of one of the form.
-use Rattle.std.proofs.Common.{◌≡◌, ℕ, List, [], ◌∷◌, ◌++◌, map, Bool, true, false, cond, ◌||◌, ◌&&◌, not, Option, Some, None, Ok, is_some, is_none, refl, sym, ◌∙◌, ap, subst}
-use Rattle.std.specs.Prelude.{option_map}
+-- The parameters that are written for those of a function of the form.
+use Rattle.std.proofs.Common.{◌≡◌, ℕ, List, [], ◌∷◌, ◌++◌, map, Bool, true, false, cond, ◌||◌, ◌&&◌, not, Option, Some, None, Ok, is_some, is_none, refl, ap}
 use Rattle.c_text.specs.declared.tokens.Place.{Place}
 use Rattle.neon_table.specs.Rows as neon_table
 use Rattle.c_tree.specs.declared.types.CType.{CType}
-use Rattle.c_tree.specs.declared.types.CType.TheVariants.{Void, Int, M128, M256, Neon, Pair, Pointer, Array}
+use Rattle.c_tree.specs.declared.types.CType.TheVariants.{M128}
 use Rattle.c_tree.specs.Tree.{Tree, Trees, Object}
-use Rattle.c_tree.specs.Same.{unnumbered, stripped, stripped_all, stripped_object}
 use Rattle.scopes.specs.Scopes.{Env, Scope, Callee, named, same_name, or_else, with_object}
 use Rattle.scopes.specs.declared.environment.Object.{Object as Known}
 use Rattle.object_types.specs.Objects.{known as known_object}
 use Rattle.statement_types.specs.Statements.{with_objects}
 use Rattle.vector_types.specs.Functions.{check_parameter, check_parameters}
+use Rattle.reading_again.specs.Plain.{PlainParameters}
 use Rattle.simd_top.specs.Rows.{neon_name, moved_row}
 use Rattle.simd_top.specs.Form.{is_in, is_free, is_plain, is_parameter, are_parameters, names_of, is_register}
 use Rattle.simd_top.specs.Written.{register, moved_type, moved_object}
@@ -19,7 +18,7 @@ use Rattle.simd_top.proofs.Conjunction.{split_and}
 use Rattle.simd_top.proofs.Expressions.{seen, known, HasNoRow}
 use Rattle.simd_top.proofs.Good.{none_is}
 use Rattle.simd_top.proofs.FreeNames.{neither, no_neon_row, other_than_neon}
-use Rattle.simd_top.proofs.Parameters.{Heads, m128}
+use Rattle.simd_top.proofs.Parameters.{m128}
 
 -- the scope once these parameters are declared
 abbrev pub grown : Scope → List Object → Scope
@@ -73,89 +72,52 @@ pub not_in : (v : Bool) → not v ≡ true → v ≡ false
 not_in true h = absurd (cc)
 not_in false h = refl
 
--- ---- what is read in place of parameters
+-- ---- what is written for parameters
 
--- the parameter that is read for one of the form, at its place; it has no alignment, on whichever side that would stand
-abbrev pub written_parameter : Place → Bool → Object → Object
-written_parameter p first d = record { place = p; name = d.name; ty = register; length = None; constant = d.constant; align = None; align_first = first; init = None; list = None }
-
-abbrev pub AreRead : List Object → List Object → Type 0
-AreRead [] [] = Unit {0}
-AreRead (d ∷ ds) (e ∷ es) = (e ≡ written_parameter e.place e.align_first d) × AreRead ds es
-AreRead ds es = ⊥
+-- the parameter that is written for one of the form
+abbrev pub written_parameter : Object → Object
+written_parameter d = record { place = d.place; name = d.name; ty = register; length = None; constant = d.constant; align = None; align_first = d.align_first; init = None; list = None }
 
 object_is : (e : Object) (x : List ℕ) (t : CType) (l : Option Tree) (c : Bool) (a i : Option Tree) (s : Option Trees) →
     e.name ≡ x → e.ty ≡ t → e.length ≡ l → e.constant ≡ c → e.align ≡ a → e.init ≡ i → e.list ≡ s →
     e ≡ record { place = e.place; name = x; ty = t; length = l; constant = c; align = a; align_first = e.align_first; init = i; list = s }
 object_is e x t l c a i s name type length constant align init list = rw⁻¹ (name, type, length, constant, align, init, list) refl
 
-none_left : {A B : Type 0} (f : A → B) (o : Option A) (p : Option B) → option_map f o ≡ p → p ≡ None → o ≡ None
-none_left f None p h k = refl
-none_left f (Some a) p h k = absurd (cc)
-
-pub register_left : (t : CType) → unnumbered t ≡ register → t ≡ register
-register_left Void h = h
-register_left (Int s) h = h
-register_left M128 h = h
-register_left M256 h = h
-register_left (Neon l w) h = h
-register_left Pair h = h
-register_left (Pointer e c) h = h
-register_left (Array e n c) h = absurd (cc)
-
-object_read : (d e : Object) → is_plain d ≡ true → stripped_object e ≡ stripped_object (moved_object d) → e ≡ written_parameter e.place e.align_first d
-object_read d e h same =
+object_written : (d : Object) → is_plain d ≡ true → moved_object d ≡ written_parameter d
+object_written d h =
     let (length, align, init, list, ty) = plain_object d h in
-    object_is e d.name register None d.constant None None None
-    (ap (λ o. o.name) same) (register_left e.ty (ap (λ o. o.ty) same ∙ ap (λ t. unnumbered (moved_type t)) ty))
-    (none_left stripped e.length (option_map stripped d.length) (ap (λ o. o.length) same) (ap (option_map stripped) length)) (ap (λ o. o.constant) same)
-    (none_left stripped e.align (option_map stripped d.align) (ap (λ o. o.align) same) (ap (option_map stripped) align))
-    (none_left stripped e.init (option_map stripped d.init) (ap (λ o. o.init) same) (ap (option_map stripped) init))
-    (none_left stripped_all e.list (option_map stripped_all d.list) (ap (λ o. o.list) same) (ap (option_map stripped_all) list))
+    object_is (moved_object d) d.name register None d.constant None None None refl (ap moved_type ty) length refl align init list
 
-pub parameters_read : (names : List (List ℕ)) (ds es : List Object) → are_parameters names ds ≡ true → map stripped_object es ≡ map stripped_object (map moved_object ds) → AreRead ds es
-parameters_read names [] [] h same = tt
-parameters_read names [] (e ∷ es) h same = absurd (cc)
-parameters_read names (d ∷ ds) [] h same = absurd (cc)
-parameters_read names (d ∷ ds) (e ∷ es) h same =
+-- all of them, with their names in a list that grows
+abbrev pub parameters_written : List Object → List Object
+parameters_written ds = map written_parameter ds
+
+pub are_written : (names : List (List ℕ)) (ds : List Object) → are_parameters names ds ≡ true → map moved_object ds ≡ parameters_written ds
+are_written names [] h = refl
+are_written names (d ∷ ds) h =
     let a = split_and (is_parameter names d) (are_parameters (names ++ d.name ∷ []) ds) h in
     let b = split_and (is_plain d && is_free d.name) (not (is_in names d.name)) a.0 in
-    let one : stripped_object e ≡ stripped_object (moved_object d) = cc in
-    let rest : map stripped_object es ≡ map stripped_object (map moved_object ds) = cc in
-    (object_read d e (split_and (is_plain d) (is_free d.name) b.0).0 one, parameters_read (names ++ d.name ∷ []) ds es a.1 rest)
+    rw (object_written d (split_and (is_plain d) (is_free d.name) b.0).0, are_written (names ++ d.name ∷ []) ds a.1) refl
 
-pub parameters_typed : (names : List (List ℕ)) (ds es : List Object) (scope : Scope) (functions : List (List ℕ × Callee)) (here : ℕ) (calls_none : Bool) → are_parameters names ds ≡ true → Unseen names scope → AreRead ds es →
-    check_parameters es (seen scope functions here calls_none) ≡ Ok es
-parameters_typed names [] [] scope functions here calls_none h unseen are = refl
-parameters_typed names [] (e ∷ es) scope functions here calls_none h unseen are = absurd are
-parameters_typed names (d ∷ ds) [] scope functions here calls_none h unseen are = absurd are
-parameters_typed names (d ∷ ds) (e ∷ es) scope functions here calls_none h unseen are =
+pub parameters_typed : (names : List (List ℕ)) (ds : List Object) (scope : Scope) (functions : List (List ℕ × Callee)) (here : ℕ) (calls_none : Bool) → are_parameters names ds ≡ true → Unseen names scope →
+    check_parameters (parameters_written ds) (seen scope functions here calls_none) ≡ Ok (parameters_written ds)
+parameters_typed names [] scope functions here calls_none h unseen = refl
+parameters_typed names (d ∷ ds) scope functions here calls_none h unseen =
     let a = split_and (is_parameter names d) (are_parameters (names ++ d.name ∷ []) ds) h in
     let b = split_and (is_plain d && is_free d.name) (not (is_in names d.name)) a.0 in
-    let c = split_and (is_plain d) (is_free d.name) b.0 in
-    subst {A = Object} (λ o. check_parameters (o ∷ es) (seen scope functions here calls_none) ≡ Ok (o ∷ es)) (sym are.0)
-    (one_more (written_parameter e.place e.align_first d) es (seen scope functions here calls_none)
-    (object_typed e.place d.name d.constant e.align_first scope functions here calls_none (no_neon_row d.name c.1) (unseen d.name (not_in (is_in names d.name) b.1)))
-    (parameters_typed (names ++ d.name ∷ []) ds es (scope ++ (d.name, known d.constant) ∷ []) functions here calls_none a.1 (unseen_more names d.name (known d.constant) scope unseen) are.1))
+    one_more (written_parameter d) (parameters_written ds) (seen scope functions here calls_none)
+    (object_typed d.place d.name d.constant d.align_first scope functions here calls_none (no_neon_row d.name (split_and (is_plain d) (is_free d.name) b.0).1)
+    (unseen d.name (not_in (is_in names d.name) b.1)))
+    (parameters_typed (names ++ d.name ∷ []) ds (scope ++ (d.name, known d.constant) ∷ []) functions here calls_none a.1 (unseen_more names d.name (known d.constant) scope unseen))
 
-pub objects_grow : (ds es : List Object) (scope : Scope) (functions : List (List ℕ × Callee)) (here : ℕ) (calls_none : Bool) → AreRead ds es →
-    with_objects es (seen scope functions here calls_none) ≡ seen (grown scope ds) functions here calls_none
-objects_grow [] [] scope functions here calls_none are = refl
-objects_grow [] (e ∷ es) scope functions here calls_none are = absurd are
-objects_grow (d ∷ ds) [] scope functions here calls_none are = absurd are
-objects_grow (d ∷ ds) (e ∷ es) scope functions here calls_none are =
-    subst {A = Object} (λ o. with_objects (o ∷ es) (seen scope functions here calls_none) ≡ seen (grown scope (d ∷ ds)) functions here calls_none) (sym are.0)
-    (objects_grow ds es (scope ++ (d.name, known d.constant) ∷ []) functions here calls_none are.1)
+pub objects_grow : (ds : List Object) (scope : Scope) (functions : List (List ℕ × Callee)) (here : ℕ) (calls_none : Bool) →
+    with_objects (parameters_written ds) (seen scope functions here calls_none) ≡ seen (grown scope ds) functions here calls_none
+objects_grow [] scope functions here calls_none = refl
+objects_grow (d ∷ ds) scope functions here calls_none = objects_grow ds (scope ++ (d.name, known d.constant) ∷ []) functions here calls_none
 
-pub read_heads : (names : List (List ℕ)) (ds es : List Object) → are_parameters names ds ≡ true → AreRead ds es → Heads moved_type es ds
-read_heads names [] [] h are = tt
-read_heads names [] (e ∷ es) h are = absurd are
-read_heads names (d ∷ ds) [] h are = absurd are
-read_heads names (d ∷ ds) (e ∷ es) h are =
-    let a = split_and (is_parameter names d) (are_parameters (names ++ d.name ∷ []) ds) h in
-    let b = split_and (is_plain d && is_free d.name) (not (is_in names d.name)) a.0 in
-    let (length, align, init, list, ty) = plain_object d (split_and (is_plain d) (is_free d.name) b.0).0 in
-    (ap (λ o. o.name) are.0, ap (λ o. o.ty) are.0 ∙ sym (ap moved_type ty), read_heads (names ++ d.name ∷ []) ds es a.1 are.1)
+pub plain_parameters : (ds : List Object) → PlainParameters (parameters_written ds)
+plain_parameters [] = tt
+plain_parameters (d ∷ ds) = (((tt, (tt, (tt, tt))), refl), plain_parameters ds)
 
 stays_known : (ds : List Object) (scope : Scope) (x : List ℕ) (o : Known) → named x scope ≡ Some o → named x (grown scope ds) ≡ Some o
 stays_known [] scope x o h = h
