@@ -1,5 +1,5 @@
 -- No address is taken in what is moved, nor in what is written for it.
-use Rattle.std.proofs.Common.{◌≡◌, ℕ, zero, suc, List, [], ◌∷◌, Bool, true, false, not, ◌&&◌, ◌||◌, Option, Some, None, refl, sym, ap, ◌∙◌, subst, if◌then◌else◌}
+use Rattle.std.proofs.Common.{◌≡◌, ℕ, zero, suc, List, [], ◌∷◌, Bool, true, false, not, ◌&&◌, ◌||◌, Option, Some, None, refl, if◌then◌else◌}
 use Rattle.std.specs.Prelude.{option_map, get_or}
 use Rattle.std.specs.Str.{bytes_eq}
 use Rattle.lane_core.specs.declared.table.ParamKind.{ParamKind}
@@ -13,7 +13,7 @@ use Rattle.c_memory.specs.Matching.{written_type}
 use Rattle.c_memory.specs.Meaning.{type_of}
 use Rattle.const_imm.specs.Sizes.{size_of}
 use Rattle.type_rules.specs.Types.{same_type}
-use Rattle.address_taken.specs.Addressed.{takes, takes_in, takes_in_all, takes_optional, takes_declared, takes_statement, takes_maybe, takes_statements, is_declared, declares, declares_first}
+use Rattle.address_taken.specs.Addressed.{takes, takes_in, takes_in_all, takes_optional, takes_declared, takes_statement, takes_maybe, takes_statements, declares, declares_first}
 use Rattle.intel_table.specs.declared.IntelOp.{IntelOp}
 use Rattle.intel_table.specs.Rows.{find_of, signature_of, range_of}
 use Rattle.seq_core.specs.Terms.{Sequence}
@@ -22,9 +22,9 @@ use Rattle.seq_core.specs.Listed.{listed}
 use Rattle.written_forms.specs.Seen.{Sees, beginning, declared}
 use Rattle.written_forms.specs.Moved as moved
 use Rattle.written_forms.specs.Moved.{Plans, operands, immediate_among, helper_name, simple, moved_kind, moved_all, row_written, called, size_of_local}
-use Rattle.written_forms.specs.Statements.{moved_object, moved_objects, sees_objects, sees_behind, sees_optional, braced, braced_else, moved_statement, moved_optional, moved_else, moved_statements}
+use Rattle.written_forms.specs.Statements.{moved_objects, sees_behind, sees_optional, braced, braced_else, moved_statement, moved_optional, moved_else, moved_statements}
 use Rattle.written_forms.specs.Ready.{Setting, Ready, ReadyKind, AreReady}
-use Rattle.written_forms.specs.ReadyStatements.{ReadyObject, ReadyObjects, ReadyFirst, ReadyCondition, ReadyStep, ReadyResult, ReadyStart, ReadyStatement, ReadyOptional, ReadyStatements}
+use Rattle.written_forms.specs.ReadyStatements.{ReadyObjects, ReadyFirst, ReadyCondition, ReadyStep, ReadyResult, ReadyStart, ReadyStatement, ReadyOptional, ReadyStatements}
 
 pub or_false : {a b : Bool} → a ≡ false → b ≡ false → (a || b) ≡ false
 or_false h i = rw (h, i) refl

@@ -1,5 +1,5 @@
 -- Operands that have run where a row's call stood, as the law of sequences in place takes them.
-use Rattle.std.proofs.Common.{◌≡◌, ℕ, zero, suc, ◌+◌, List, [], ◌∷◌, Bool, true, false, Option, Some, None, refl, sym, ap, ◌∙◌, subst, arith, inl, inr, ◌⊎◌, if◌then◌else◌}
+use Rattle.std.proofs.Common.{◌≡◌, ℕ, zero, suc, ◌+◌, List, [], ◌∷◌, Bool, true, false, Some, refl, sym, ap, ◌∙◌, subst, arith, inl, inr, ◌⊎◌, if◌then◌else◌}
 use Rattle.std.specs.Prelude.{slice_get, get_or}
 use Rattle.c_text.specs.declared.tokens.Place.{Place}
 use Rattle.c_tree.specs.Tree.{Tree, Trees, NoTrees, More}
@@ -7,9 +7,9 @@ use Rattle.c_memory.specs.declared.value.Value.{Value}
 use Rattle.c_memory.specs.MeaningState.{State, Done, Turns}
 use Rattle.c_memory.specs.Meaning.{Calls, expression}
 use Rattle.seq_core.specs.Written.{nothing}
-use Rattle.seq_core.specs.InPlace.{is_simple, compounds, numbers_from, Readable, RunsAmong, RunsOutAmong}
+use Rattle.seq_core.specs.InPlace.{compounds, numbers_from, Readable, RunsAmong, RunsOutAmong}
 use Rattle.seq_core.specs.Listed.{listed}
-use Rattle.simulation.specs.Alike.{Objects, Alike}
+use Rattle.simulation.specs.Alike.{Objects}
 use Rattle.written_forms.specs.Moved.{all_true}
 use Rattle.written_forms.proofs.Running.{Operands, Stated, Agree, Run, Stop}
 
@@ -71,9 +71,14 @@ module _ (n : ℕ) (E : Objects) (c d : Calls) (place : Place) (simple : List Bo
       (further params (listed others) b k p) (further ps ws w k v) h)
   runs_among k (false ∷ fs) (More b others) (w ∷ ws) y z f p v h =
       let here : get_or params k (nothing place) ≡ b = got params k (nothing place) b (at_front params (listed others) b k p) in
-      subst (λ ns. RunsAmong d place params ps simple y ns z) (sym (stay simple k fs f))
-      (reads y h.0, h.1.0, w, at_front ps ws w k v, ap (λ e. expression e d y) here ∙ h.1.1,
-      runs_among (suc k) fs others ws h.1.0 z (further simple fs false k f) (further params (listed others) b k p) (further ps ws w k v) h.1.2)
+      subst (λ ns. RunsAmong d place params ps simple y ns z) (sym (stay simple k fs f)) (
+        reads y h.0,
+        h.1.0,
+        w,
+        at_front ps ws w k v,
+        ap (λ e. expression e d y) here ∙ h.1.1,
+        runs_among (suc k) fs others ws h.1.0 z (further simple fs false k f) (further params (listed others) b k p) (further ps ws w k v) h.1.2,
+      )
   runs_among k [] NoTrees (w ∷ ws) y z f p v h = absurd h
   runs_among k [] (More b others) ws y z f p v h = absurd h
   runs_among k (true ∷ fs) NoTrees ws y z f p v h = absurd h

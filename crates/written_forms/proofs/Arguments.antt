@@ -1,5 +1,5 @@
 -- Laws of the arguments of calls: those of functions, and the operands of rows with their immediate.
-use Rattle.std.proofs.Common.{◌≡◌, ℕ, suc, List, [], ◌∷◌, map, length, Bool, true, false, Option, Some, None, refl, sym, ap, ◌∙◌, subst}
+use Rattle.std.proofs.Common.{◌≡◌, ℕ, suc, List, [], ◌∷◌, length, true, Option, Some, None, refl, sym, ap, ◌∙◌, subst}
 use Rattle.std.specs.Prelude.{pos}
 use Rattle.std.proofs.lemmas.List.{length-map}
 use Rattle.lane_core.specs.declared.number.Num.{Num}
@@ -13,19 +13,18 @@ use Rattle.c_tree.specs.Tree.{Tree, Trees, Node, Call, NoTrees, More}
 use Rattle.c_memory.specs.declared.blocks.Block.{Block}
 use Rattle.c_memory.specs.declared.value.Value.{Value}
 use Rattle.c_memory.specs.Matching.{written_type}
-use Rattle.c_memory.specs.MeaningRows.{row_done, row_call, row_result}
+use Rattle.c_memory.specs.MeaningRows.{row_done, row_result}
 use Rattle.c_memory.specs.MeaningState.{State, Out, Done, Turns, Undefined, Does, then_do, ◌>>=◌, pure}
-use Rattle.c_memory.specs.Meaning.{Calls, expression, its_value, values, type_of}
+use Rattle.c_memory.specs.Meaning.{Calls, expression, values, type_of}
 use Rattle.intel_table.specs.declared.IntelOp.{IntelOp}
 use Rattle.intel_table.specs.Rows.{find_of, signature_of, range_of}
-use Rattle.seq_core.specs.Terms.{Sequence}
 use Rattle.simulation.specs.Alike.{Given, Arguments, Objects, Sim}
 use Rattle.simulation.specs.Steps.{bind_sim, pure_sim, first_as, second_as}
 use Rattle.simulation.specs.ExpressionLaws.{valued_sim}
 use Rattle.written_forms.specs.TypedValues.{TypedValues}
 use Rattle.written_forms.specs.Seen.{Sees}
 use Rattle.written_forms.specs.Moved.{Plans, operands, immediate_among, helper_name, moved, moved_all}
-use Rattle.written_forms.specs.Ready.{table, operand_types, Filled, GivesAlike, Stands, IsConstant, HasImmediate, Setting, types_of, CallsRow, AreReady}
+use Rattle.written_forms.specs.Ready.{table, operand_types, Filled, IsConstant, HasImmediate, Setting, types_of, CallsRow, AreReady}
 use Rattle.written_forms.proofs.Constants.{runs}
 use Rattle.written_forms.proofs.Calling.{CallsAgree}
 

@@ -1,6 +1,6 @@
 -- Laws of constant expressions in a typed source: they have their values wherever they are evaluated.
 use Rattle.std.proofs.Common.{◌≡◌, ℕ, List, Bool, true, false, not, Option, Some, None, refl, sym, ap, ◌∙◌, subst, arith}
-use Rattle.std.specs.Prelude.{option_map, if◌then◌else◌, ℤ, pos, IfSome}
+use Rattle.std.specs.Prelude.{option_map, if◌then◌else◌, ℤ, pos}
 use Rattle.std.specs.Ordering.{int_eq}
 use Rattle.std.proofs.lemmas.Int.{ints}
 use Rattle.lane_core.specs.IntRange.{InRange}

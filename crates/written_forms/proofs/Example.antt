@@ -1,5 +1,5 @@
 -- A small unit that is ready, and so does the same: how what is asked is met. `int f(char x) { while (x) x = x - 1; return x; }`
-use Rattle.std.specs.Prelude.{◌≡◌, ℕ, Bool, false, List, [], ◌∷◌, Option, Some, None, codes, pos, refl}
+use Rattle.std.specs.Prelude.{◌≡◌, ℕ, Bool, false, List, [], ◌∷◌, Some, None, codes, pos, refl}
 use Rattle.lane_core.specs.declared.number.IntType.TheVariants as int
 use Rattle.lane_core.specs.declared.number.Num.{Num}
 use Rattle.lane_core.specs.declared.number.BinOp.TheVariants as op
@@ -8,10 +8,9 @@ use Rattle.std.proofs.lemmas.Int.{ints}
 use Rattle.scalar_core.specs.Ranks.{common_of, promoted}
 use Rattle.c_text.specs.declared.tokens.Place.{Place}
 use Rattle.c_tree.specs.declared.types.CType.{CType}
-use Rattle.c_tree.specs.Tree.{Tree, Node, Const, Name, Binary, Assign, Cast, Object, Statements, Run, While, Return, NoStatements, Then, Definition, External, Function}
+use Rattle.c_tree.specs.Tree.{Tree, Node, Const, Name, Binary, Assign, Cast, Object, Statements, Run, While, Return, NoStatements, Then, Definition, Function}
 use Rattle.intel_table.specs.Rows as intel
 use Rattle.neon_table.specs.Rows as neon
-use Rattle.seq_core.specs.Terms.{Sequence}
 use Rattle.written_forms.specs.Seen.{local}
 use Rattle.written_forms.specs.Moved.{Plans}
 use Rattle.written_forms.specs.ReadyUnits.{ReadyUnit}

@@ -4,7 +4,6 @@ use Rattle.std.specs.Str.{bytes_eq}
 use Rattle.std.proofs.lemmas.Slice.Eq.{bytes_eq-Decides}
 use Rattle.lane_core.specs.declared.table.ParamKind.{ParamKind}
 use Rattle.lane_core.specs.declared.table.ParamKind.TheVariants as kind
-use Rattle.lane_core.specs.declared.number.BinOp.{BinOp}
 use Rattle.lane_core.specs.Table.{params_of}
 use Rattle.c_text.specs.declared.tokens.Place.{Place}
 use Rattle.c_tree.specs.declared.types.CType.{CType}
@@ -13,10 +12,8 @@ use Rattle.c_tree.specs.Tree.{Tree, Kind, Trees, Node, Const, Name, Unary, Step,
 use Rattle.c_memory.specs.declared.value.Value.{Value}
 use Rattle.c_memory.specs.Matching.{written_type}
 use Rattle.c_memory.specs.Meaning.{Calls, expression, values, last, type_of}
-use Rattle.const_imm.specs.Sizes.{size_of}
 use Rattle.intel_table.specs.declared.IntelOp.{IntelOp}
 use Rattle.intel_table.specs.Rows.{find_of, signature_of, range_of}
-use Rattle.seq_core.specs.Terms.{Sequence}
 use Rattle.seq_core.specs.InPlace.{stands_in_place, in_place}
 use Rattle.seq_core.specs.Listed.{listed}
 use Rattle.simulation.specs.Alike.{Given, Arguments, Objects, Sim}
@@ -28,14 +25,14 @@ use Rattle.written_forms.proofs.TypedLaws.{typed_constant}
 use Rattle.written_forms.specs.Seen.{Local, Sees}
 use Rattle.written_forms.specs.Moved as moved
 use Rattle.written_forms.specs.Moved.{Plans, operands, immediate_among, helper_name, are_plain, is_steady, is_steady_local, steady, simple, all_true, moved_kind, moved_all, row_written, called, size_of_local}
-use Rattle.written_forms.specs.Ready.{Setting, IsInt, IsSeen, IsCarried, IsVariable, assigns, any_assigns, is_name, StaysAmong, AllStayAmong, StayUnless, AreUndisturbed, EndsIn, types_of, CallsFunction, CallsRow, IsCall, Ready, ReadyKind, AreReady}
+use Rattle.written_forms.specs.Ready.{Setting, IsSeen, IsCarried, assigns, any_assigns, AllStayAmong, StayUnless, EndsIn, CallsRow, IsCall, Ready, ReadyKind, AreReady}
 use Rattle.written_forms.proofs.Agreeing.{Keeping, kept, way_of, Agrees, SetsNone}
 use Rattle.written_forms.proofs.Calling.{CallsAgree}
-use Rattle.written_forms.proofs.Forms.{MaySet, may_set, variable_sim, set_sim, set_by_sim, stepped_sim, AreAlike, number_sim, before_sim, between_sim, both_sim, either_sim, chosen_sim, nothing_sim, int_of, plain, plain_written}
+use Rattle.written_forms.proofs.Forms.{may_set, variable_sim, set_sim, set_by_sim, stepped_sim, number_sim, before_sim, between_sim, both_sim, either_sim, chosen_sim, nothing_sim, int_of, plain, plain_written}
 use Rattle.written_forms.proofs.Sizes.{size_sim, size_of_name_sim, cast_sim}
 use Rattle.written_forms.proofs.Arguments.{AllAlike, all_sim, helper_sim}
 use Rattle.written_forms.proofs.Running.{Known, Operand, Operands}
-use Rattle.written_forms.proofs.Holding.{IsKept, KeepsIt, KeepAll, Grows, NoneSets, While, keep_all}
+use Rattle.written_forms.proofs.Holding.{IsKept, KeepsIt, KeepAll, NoneSets, keep_all}
 use Rattle.written_forms.proofs.Placing.{PlaceLaw, operands_moved, mixed_sim, plain_sim}
 
 -- ---- truth values
@@ -244,7 +241,7 @@ module _ (law : PlaceLaw) (n : ℕ) (c d : Calls) (w : Setting) (sees : Sees) (c
         nothing_sim n (Scope TypedValues scope ks) c d p p t CType.Void a (moved.moved w.plans sees a) true true h.0 (moved_sim scope ks keeps ag a h.1 none)
     kind_sim scope ks keeps ag p t (Cast (CType.Int s) a z) h none =
         cast_sim n (Scope TypedValues scope ks) c d p p t s a (moved.moved w.plans sees a) z h.0 h.1 (moved_sim scope ks keeps ag a h.2 none)
-    kind_sim scope ks keeps ag p t (Call f all) h none = 
+    kind_sim scope ks keeps ag p t (Call f all) h none =
         call_sim scope ks keeps ag p t f all (find_of f) refl h.0 h.1 none (all_alike scope ks keeps ag all h.1 none)
         (λ kinds scope2 ks2 more ag2 none2. operands_alike scope2 ks2 more ag2 kinds all h.1 none2)
     kind_sim scope ks keeps ag p t (SizeOfType u) h none = size_sim n (Scope TypedValues scope ks) c d p p t u h
@@ -272,9 +269,10 @@ module _ (law : PlaceLaw) (n : ℕ) (c d : Calls) (w : Setting) (sees : Sees) (c
     all_alike : (scope : List Carried) (ks : Marks) (keeps : List Keeping) → Agrees sees scope ks keeps → (all : Trees) → AreReady w sees all → SetsNone keeps (λ x. any_assigns x all)
         → AllAlike n (Scope TypedValues scope ks) c d w.plans sees all
     all_alike scope ks keeps ag NoTrees h none = tt
-    all_alike scope ks keeps ag (More a rest) h none =
-        (moved_sim scope ks keeps ag a h.0 (of_first keeps (λ x. assigns x a) (λ x. any_assigns x rest) none),
-        all_alike scope ks keeps ag rest h.1 (of_second keeps (λ x. assigns x a) (λ x. any_assigns x rest) none))
+    all_alike scope ks keeps ag (More a rest) h none = (
+      moved_sim scope ks keeps ag a h.0 (of_first keeps (λ x. assigns x a) (λ x. any_assigns x rest) none),
+      all_alike scope ks keeps ag rest h.1 (of_second keeps (λ x. assigns x a) (λ x. any_assigns x rest) none),
+    )
 
     operands_alike : (scope : List Carried) (ks : Marks) (keeps : List Keeping) → Agrees sees scope ks keeps → (kinds : List ParamKind) (all : Trees) → AreReady w sees all
         → SetsNone keeps (λ x. any_assigns x (operands kinds all)) → AllAlike n (Scope TypedValues scope ks) c d w.plans sees (operands kinds all)
@@ -283,6 +281,7 @@ module _ (law : PlaceLaw) (n : ℕ) (c d : Calls) (w : Setting) (sees : Sees) (c
     operands_alike scope ks keeps ag (kind.Immediate ∷ more_kinds) NoTrees h none = tt
     operands_alike scope ks keeps ag (kind.Immediate ∷ more_kinds) (More a rest) h none = operands_alike scope ks keeps ag more_kinds rest h.1 none
     operands_alike scope ks keeps ag (k ∷ more_kinds) NoTrees h none = tt
-    operands_alike scope ks keeps ag (k ∷ more_kinds) (More a rest) h none =
-        (moved_sim scope ks keeps ag a h.0 (of_first keeps (λ x. assigns x a) (λ x. any_assigns x (operands more_kinds rest)) none),
-        operands_alike scope ks keeps ag more_kinds rest h.1 (of_second keeps (λ x. assigns x a) (λ x. any_assigns x (operands more_kinds rest)) none))
+    operands_alike scope ks keeps ag (k ∷ more_kinds) (More a rest) h none = (
+      moved_sim scope ks keeps ag a h.0 (of_first keeps (λ x. assigns x a) (λ x. any_assigns x (operands more_kinds rest)) none),
+      operands_alike scope ks keeps ag more_kinds rest h.1 (of_second keeps (λ x. assigns x a) (λ x. any_assigns x (operands more_kinds rest)) none),
+    )

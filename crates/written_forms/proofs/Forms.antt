@@ -1,7 +1,5 @@
 -- Laws of the forms of expressions that are moved, one for each form.
-use Rattle.std.proofs.Common.{◌≡◌, ℕ, List, [], ◌∷◌, Bool, true, false, ◌||◌, Option, Some, None, refl, sym, ap, ◌∙◌, subst, arith, if◌then◌else◌}
-use Rattle.std.specs.Prelude.{option_map, ℤ, pos}
-use Rattle.std.specs.Option.{option_and_then}
+use Rattle.std.proofs.Common.{◌≡◌, ℕ, List, Bool, true, false, Option, Some, None, refl, sym, ap, ◌∙◌, subst}
 use Rattle.std.specs.Str.{bytes_eq}
 use Rattle.std.proofs.lemmas.Slice.Eq.{bytes_eq-Decides}
 use Rattle.lane_core.specs.declared.number.IntType.{IntType}
@@ -9,32 +7,25 @@ use Rattle.lane_core.specs.declared.number.IntType.TheVariants as int
 use Rattle.lane_core.specs.declared.number.Num.{Num}
 use Rattle.lane_core.specs.declared.number.BinOp.{BinOp}
 use Rattle.lane_core.specs.declared.number.UnOp.{UnOp}
-use Rattle.lane_core.specs.IntRange.{InRange}
-use Rattle.scalar_core.specs.Numbers.{num_of, converted}
-use Rattle.scalar_core.specs.NumberLaws.{converted_type, converted_kept}
 use Rattle.scalar_core.specs.Operators.{binary_type, unary_type}
-use Rattle.const_imm.specs.Sizes.{size_of}
 use Rattle.c_text.specs.declared.tokens.Place.{Place}
 use Rattle.c_tree.specs.declared.types.CType.{CType}
-use Rattle.c_tree.specs.Tree.{Tree, Node, Const, Name, Unary, Step, Binary, AndThen, OrElse, Choice, Assign, Cast, SizeOfType, SizeOfName}
+use Rattle.c_tree.specs.Tree.{Tree, Node, Const, Name, Unary, Step, Binary, AndThen, OrElse, Choice, Assign, Cast}
 use Rattle.c_tree.specs.Types.{is_array}
 use Rattle.c_memory.specs.declared.value.Value.{Value}
 use Rattle.c_memory.specs.Matching.{written_integer, written_type}
-use Rattle.c_memory.specs.Values.{IsOfType}
-use Rattle.c_memory.specs.MeaningObjects.{Target}
-use Rattle.c_memory.specs.MeaningState.{Binding, State, Out, Done, Turns, Undefined, Does, then_do, pure, defined, found}
-use Rattle.c_memory.specs.Meaning.{Calls, expression, its_value, condition, target, size_value, give, type_of}
-use Rattle.simulation.specs.Alike.{Given, Options, Objects, Alike, After, Ends, Sim}
-use Rattle.simulation.specs.Carried.{Way, MayBeSet, Fixed, Held, InMemory, MayChange, Carried, Shared, Marks, Scope, carried, mark_of}
-use Rattle.simulation.specs.Steps.{bind_sim, pure_sim, defined_sim, after_same}
-use Rattle.simulation.specs.ScopeLaws.{Binds, object_sim}
+use Rattle.c_memory.specs.MeaningState.{Does}
+use Rattle.c_memory.specs.Meaning.{Calls, expression, condition, target, type_of}
+use Rattle.simulation.specs.Alike.{Given, Objects, Sim}
+use Rattle.simulation.specs.Carried.{Way, MayChange, Carried, Shared, Marks, Scope, carried}
+use Rattle.simulation.specs.Steps.{pure_sim}
 use Rattle.simulation.specs.ObjectLaws.{AreNamed}
 use Rattle.simulation.specs.ExpressionLaws.{Reads, Converts, OperatesBefore, Operates, OperatesInto, Steps, Tests, name_sim, valued_sim, tested_sim, unary_sim, binary_sim, and_sim, or_sim, choice_sim, cast_sim, void_cast_sim, assign_sim, assigned_sim, compound_sim, step_sim, named_target_sim, read_named_sim, set_named_sim}
 use Rattle.written_forms.specs.TypedValues.{TypedValues}
-use Rattle.written_forms.proofs.TypedLaws.{typed_constant, typed_truth, typed_tests, typed_operates, typed_before, typed_converts, typed_into, typed_steps, IsNumber, number, is_number}
-use Rattle.written_forms.specs.Seen.{Local, Sees}
+use Rattle.written_forms.proofs.TypedLaws.{typed_constant, typed_truth, typed_tests, typed_operates, typed_before, typed_converts, typed_into, typed_steps}
+use Rattle.written_forms.specs.Seen.{Sees}
 use Rattle.written_forms.specs.Moved as moved
-use Rattle.written_forms.specs.Ready.{IsInt, WhenInt, IsSeen, IsCarried, is_name}
+use Rattle.written_forms.specs.Ready.{IsInt, WhenInt, IsSeen, IsCarried}
 use Rattle.written_forms.proofs.Agreeing.{Keeping, kept, way_when, way_of, Agrees, SetsNone}
 
 -- ---- types

@@ -1,5 +1,5 @@
 -- The law of functions: what is written for a function of a source does the same, wherever it is called.
-use Rattle.std.proofs.Common.{◌≡◌, ℕ, List, [], ◌∷◌, Bool, true, false, refl, sym, ap, ◌∙◌, subst}
+use Rattle.std.proofs.Common.{◌≡◌, ℕ, List, [], ◌∷◌, true, false, refl, ap}
 use Rattle.c_tree.specs.declared.types.CType.{CType}
 use Rattle.c_tree.specs.Tree.{Object, Statements, Definition}
 use Rattle.address_taken.specs.Addressed.{takes_statements}
@@ -8,13 +8,13 @@ use Rattle.c_memory.specs.Matching.{written_type}
 use Rattle.c_memory.specs.MeaningState.{Binding}
 use Rattle.c_memory.specs.Meaning.{Calls, call_of}
 use Rattle.simulation.specs.Alike.{CallsAlike}
-use Rattle.simulation.specs.Carried.{Fixed, Carried, Shared, Marks, Unmarked, Scope, Within, inner}
+use Rattle.simulation.specs.Carried.{Carried, Marks, Unmarked, Scope, Within, inner}
 use Rattle.simulation.specs.FunctionLaws.{AreApart, with_parameters, with_marks, parameters_sim, call_of_alike, body_of_sim}
 use Rattle.written_forms.specs.TypedValues.{TypedValues}
 use Rattle.written_forms.specs.Seen.{local, Sees, sees_nothing, with_local}
-use Rattle.written_forms.specs.Statements.{moved_parameter, moved_parameters, moved_statements, sees_parameters, moved_function}
+use Rattle.written_forms.specs.Statements.{moved_parameters, moved_statements, sees_parameters, moved_function}
 use Rattle.written_forms.specs.Ready.{Setting}
-use Rattle.written_forms.specs.ReadyStatements.{ReadyStatements, ReadyFunction}
+use Rattle.written_forms.specs.ReadyStatements.{ReadyFunction}
 use Rattle.written_forms.proofs.Agreeing.{Agrees}
 use Rattle.written_forms.proofs.Calling.{CallsAgree}
 use Rattle.written_forms.proofs.Addresses.{statements_taken, statements_written}

@@ -1,19 +1,17 @@
 -- Laws of variables that are always set: they may keep their values while an expression is evaluated that doesn't set them.
-use Rattle.std.proofs.Common.{◌≡◌, ℕ, suc, List, [], ◌∷◌, Bool, true, false, Option, Some, None, refl, sym, ap, ◌∙◌, subst, if◌then◌else◌}
+use Rattle.std.proofs.Common.{◌≡◌, ℕ, List, [], ◌∷◌, Bool, true, false, Option, Some, None, refl, sym, ap, ◌∙◌, subst, if◌then◌else◌}
 use Rattle.std.specs.Str.{bytes_eq}
 use Rattle.std.proofs.lemmas.Slice.Eq.{bytes_eq-Decides}
 use Rattle.c_tree.specs.declared.types.CType.{CType}
-use Rattle.c_tree.specs.Tree.{Tree, Trees, Node, Const, Name, NoTrees, More}
+use Rattle.c_tree.specs.Tree.{Tree, Trees, Node, Name, NoTrees, More}
 use Rattle.c_memory.specs.declared.value.Value.{Value}
 use Rattle.c_memory.specs.Matching.{written_type}
 use Rattle.c_memory.specs.MeaningState.{Does}
-use Rattle.simulation.specs.Alike.{Objects, Sim}
-use Rattle.simulation.specs.Carried.{Way, MayBeSet, Fixed, Held, Carried, Shared, Added, Halved, Mark, Marks, Values, Scope, outer, inner, is_named, carried, mark_of, as_held, held, marked}
+use Rattle.simulation.specs.Alike.{Sim}
+use Rattle.simulation.specs.Carried.{Fixed, Held, Carried, Shared, Mark, Marks, Values, Scope, outer, inner, is_named, carried, mark_of, as_held, held, marked}
 use Rattle.simulation.specs.HeldLaws.{IsFixed, hold_sim}
 use Rattle.written_forms.specs.TypedValues.{TypedValues}
 use Rattle.written_forms.specs.Seen.{Local, Sees}
-use Rattle.written_forms.specs.Moved.{is_steady, is_steady_local}
-use Rattle.written_forms.specs.Ready.{Setting, any_assigns, AllStayAmong, Ready, AreReady, IsSeen}
 use Rattle.written_forms.proofs.Agreeing.{Keeping, keeping, kept, way_when, way_of, Agrees, SetsNone}
 
 -- ---- what holding an object changes

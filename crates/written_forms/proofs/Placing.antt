@@ -1,6 +1,5 @@
 -- The law of rows whose sequence stands in place of the call.
-use Rattle.std.proofs.Common.{◌≡◌, ℕ, List, [], ◌∷◌, Bool, true, false, ◌||◌, Option, Some, None, refl, sym, ap, ◌∙◌, subst, if◌then◌else◌}
-use Rattle.std.specs.Prelude.{pos}
+use Rattle.std.proofs.Common.{◌≡◌, ℕ, List, [], ◌∷◌, Bool, true, Option, Some, None, refl, sym, ap, subst}
 use Rattle.lane_core.specs.declared.number.Num.{Num}
 use Rattle.lane_core.specs.declared.table.ParamKind.{ParamKind}
 use Rattle.lane_core.specs.declared.table.ParamKind.TheVariants as kind
@@ -8,27 +7,25 @@ use Rattle.lane_core.specs.Table.{params_of}
 use Rattle.const_imm.specs.Constant.{value_of}
 use Rattle.c_text.specs.declared.tokens.Place.{Place}
 use Rattle.c_tree.specs.declared.types.CType.{CType}
-use Rattle.c_tree.specs.Tree.{Tree, Trees, Node, Const, Name, Call, NoTrees, More}
+use Rattle.c_tree.specs.Tree.{Tree, Trees, Node, Call, NoTrees, More}
 use Rattle.c_memory.specs.declared.value.Value.{Value}
-use Rattle.c_memory.specs.MeaningState.{State, Out, Done, Turns, Undefined, Does, then_do, ◌>>=◌, pure, defined}
-use Rattle.c_memory.specs.Meaning.{Calls, expression, its_value, values, type_of}
+use Rattle.c_memory.specs.MeaningState.{State, Out, Done, Turns, Undefined, then_do, ◌>>=◌, pure}
+use Rattle.c_memory.specs.Meaning.{Calls, expression, its_value, values}
 use Rattle.intel_table.specs.declared.IntelOp.{IntelOp}
-use Rattle.intel_table.specs.Rows.{find_of, signature_of, range_of}
+use Rattle.intel_table.specs.Rows.{find_of, signature_of}
 use Rattle.seq_core.specs.Terms.{Sequence}
-use Rattle.seq_core.specs.InPlace.{compounds, numbers_from, stands_in_place, in_place, RunsAmong, RunsOutAmong, HoldsWhereItStood, RunsOutWhereItStood}
+use Rattle.seq_core.specs.InPlace.{stands_in_place, in_place, RunsAmong, HoldsWhereItStood, RunsOutWhereItStood}
 use Rattle.seq_core.specs.Listed.{listed}
 use Rattle.simulation.specs.Alike.{Given, Arguments, Objects, Alike, After, Ends, Sim}
-use Rattle.simulation.specs.Carried.{Carried, Marks, Scope}
 use Rattle.simulation.specs.Steps.{after_same}
 use Rattle.written_forms.specs.TypedValues.{TypedValues}
-use Rattle.written_forms.specs.Seen.{Local, Sees}
-use Rattle.written_forms.specs.Moved.{Plans, operands, immediate_among, is_plain, are_plain, is_steady, is_steady_local, all_true, steady, simple, moved, moved_all}
-use Rattle.written_forms.specs.Ready.{table, operand_types, Filled, GivesAlike, Stands, IsConstant, HasImmediate, Setting, types_of, CallsRow, AreReady, Ready, AreCarried, any_assigns, AreUndisturbed, StayUnless, StaysAmong, AllStayAmong}
-use Rattle.written_forms.proofs.Agreeing.{Keeping, kept, Agrees, SetsNone}
+use Rattle.written_forms.specs.Seen.{Sees}
+use Rattle.written_forms.specs.Moved.{Plans, operands, immediate_among, are_plain, all_true, moved, moved_all}
+use Rattle.written_forms.specs.Ready.{Filled, GivesAlike, IsConstant, HasImmediate, Setting, types_of, CallsRow, AreReady}
 use Rattle.written_forms.proofs.Constants.{runs}
 use Rattle.written_forms.proofs.Calling.{CallsAgree}
 use Rattle.written_forms.proofs.Arguments.{AllAlike, of_types, source_gives}
-use Rattle.written_forms.proofs.Running.{Operands, Might, Ended, ends, Stated}
+use Rattle.written_forms.proofs.Running.{Operands, Ended, ends, Stated}
 use Rattle.written_forms.proofs.AmongOthers.{readable, whole, no_compounds, runs_among, runs_out_among}
 use Rattle.written_forms.proofs.PlainOperands.{PlainlyEnded, plain_ends, plainly_readable}
 
@@ -152,8 +149,11 @@ module _ (law : PlaceLaw) (n : ℕ) (E : Objects) (c d : Calls) (w : Setting) (s
   mixed_ends flags st k y (Done us u) h =
       let g = row_given us h.0 h.2.values in
       let reads = λ (z : State) (i : Stated n E c d z). readable n E c d place flags ops others k h.0 h.2.agree z i in
-      rw (source_done us h.0 h.2.values u, law.gives place (listed others) flags is.plan is.stands.callable.0 st d calls.neon h.0 y h.1
-      (runs_among n E c d place flags (listed others) h.0 reads 0 flags others h.0 y h.1 (whole flags) (whole (listed others)) (whole h.0) h.3) g.w g.sequence)
+      rw (
+        source_done us h.0 h.2.values u,
+        law.gives place (listed others) flags is.plan is.stands.callable.0 st d calls.neon h.0 y h.1
+            (runs_among n E c d place flags (listed others) h.0 reads 0 flags others h.0 y h.1 (whole flags) (whole (listed others)) (whole h.0) h.3) g.w g.sequence,
+      )
       (result_alike us h.0 h.2.values, h.4)
 
   plain_placed : stands_in_place (all_true ops) is.plan ≡ true → (x y : State) → Alike n E x y → (o : Out (List Value)) → PlainlyEnded d ops others x y o → Placed y o

@@ -1,19 +1,16 @@
 -- Laws of operands that are variables and constants alone: reading them changes nothing.
-use Rattle.std.proofs.Common.{◌≡◌, ℕ, zero, suc, List, [], ◌∷◌, Bool, true, false, ◌&&◌, Option, Some, None, refl, sym, ap, ◌∙◌, subst}
-use Rattle.std.specs.Prelude.{slice_get, get_or}
+use Rattle.std.proofs.Common.{◌≡◌, ℕ, zero, suc, List, [], ◌∷◌, true, Option, Some, None, refl, sym, ap, ◌∙◌, subst}
 use Rattle.std.proofs.lemmas.Bool.{and_parts}
 use Rattle.c_text.specs.declared.tokens.Place.{Place}
 use Rattle.c_tree.specs.declared.types.CType.{CType}
 use Rattle.c_tree.specs.Tree.{Tree, Trees, Node, Const, Name, NoTrees, More}
 use Rattle.c_memory.specs.declared.value.Value.{Value}
-use Rattle.c_memory.specs.declared.memory.Pointer.{Pointer}
-use Rattle.c_memory.specs.MeaningObjects.{value_at, value_named, load, load_from}
-use Rattle.c_memory.specs.MeaningState.{Location, Apart, Halves, InBlock, Binding, State, Out, Done, Turns, Undefined, Does, then_do, ◌>>=◌, pure, defined, found}
-use Rattle.c_memory.specs.Meaning.{Calls, expression, its_value, values, type_of, object_value, array_value}
-use Rattle.seq_core.specs.Written.{nothing}
+use Rattle.c_memory.specs.MeaningObjects.{value_at}
+use Rattle.c_memory.specs.MeaningState.{Location, Apart, Halves, InBlock, Binding, State, Out, Done, Turns, Undefined, then_do, ◌>>=◌, pure, defined, found}
+use Rattle.c_memory.specs.Meaning.{Calls, expression, values, type_of, object_value, array_value}
 use Rattle.seq_core.specs.InPlace.{Readable}
 use Rattle.seq_core.specs.Listed.{listed}
-use Rattle.simulation.specs.Alike.{Given, Arguments, Objects, Alike, After, Ends, Sim}
+use Rattle.simulation.specs.Alike.{Given, Arguments, Objects, Alike, After, Ends}
 use Rattle.written_forms.specs.TypedValues.{TypedValues}
 use Rattle.written_forms.specs.Seen.{Sees}
 use Rattle.written_forms.specs.Moved.{Plans, is_plain, are_plain, all_true, moved, moved_all}

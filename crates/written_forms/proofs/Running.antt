@@ -1,23 +1,19 @@
 -- Laws of operands that run where a row's call stood: the simple ones may be read anywhere among them.
-use Rattle.std.proofs.Common.{◌≡◌, ℕ, zero, suc, ◌+◌, List, [], ◌∷◌, length, Bool, true, false, Option, Some, None, refl, sym, ap, ◌∙◌, subst, arith, inl, inr, ◌⊎◌, if◌then◌else◌}
-use Rattle.std.specs.Prelude.{slice_get, get_or, replicate, pos}
+use Rattle.std.proofs.Common.{◌≡◌, ℕ, List, [], ◌∷◌, Bool, true, false, Option, Some, None, refl, arith, inl, inr, ◌⊎◌}
+use Rattle.std.specs.Prelude.{replicate, pos}
 use Rattle.std.proofs.Common.{rules}
 use Rattle.lane_core.specs.declared.number.IntType.{IntType}
 use Rattle.lane_core.specs.Register.{IsRegister}
 use Rattle.scalar_core.specs.Numbers.{num_of}
 use Rattle.c_memory.specs.Matching.{written_integer}
 use Rattle.simulation.specs.WrittenLaws.{num_written}
-use Rattle.c_text.specs.declared.tokens.Place.{Place}
 use Rattle.c_tree.specs.declared.types.CType.{CType}
 use Rattle.c_tree.specs.Tree.{Tree, Trees, NoTrees, More}
 use Rattle.c_memory.specs.declared.value.Value.{Value}
 use Rattle.c_memory.specs.MeaningState.{State, Out, Done, Turns, Undefined, then_do, ◌>>=◌, pure, defined}
-use Rattle.c_memory.specs.Meaning.{Calls, expression, its_value, values, type_of}
-use Rattle.seq_core.specs.Written.{nothing}
-use Rattle.seq_core.specs.InPlace.{is_simple, compounds, numbers_from, Readable, RunsAmong, RunsOutAmong}
-use Rattle.seq_core.specs.Listed.{listed}
+use Rattle.c_memory.specs.Meaning.{Calls, expression, values, type_of}
 use Rattle.simulation.specs.Alike.{Given, Arguments, Objects, Alike, After, Ends, Sim}
-use Rattle.simulation.specs.Steps.{after_same, later_ends}
+use Rattle.simulation.specs.Steps.{after_same}
 use Rattle.simulation.specs.BlockLaws.{stays_on}
 use Rattle.written_forms.specs.TypedValues.{TypedValues}
 use Rattle.written_forms.specs.Ready.{IsCarried, AreCarried, types_of}
@@ -119,9 +115,13 @@ module _ (n : ℕ) (E : Objects) (c d : Calls) where
   behind fs a b rest others g k x y u z v w Undefined al e r f h = tt
   behind fs a b rest others g k x y u z v w Turns al e r f h =
       (v ∷ h.0, w ∷ h.1, record { values = (r, h.2.values); agree = h.2.agree }, (record { state = x; alike = al }, inr (z, e, h.3)))
-  behind fs a b rest others g k x y u z v w (Done vs s) al e r f h =
-      (w ∷ h.0, h.1, record { values = (r, h.2.values); agree = h.2.agree }, (record { state = x; alike = al }, (z, e, h.3)),
-      record { alike = h.4.alike; stays = stays_on y.memory z.memory (h.1).memory f.stays h.4.stays })
+  behind fs a b rest others g k x y u z v w (Done vs s) al e r f h = (
+    w ∷ h.0,
+    h.1,
+    record { values = (r, h.2.values); agree = h.2.agree },
+    (record { state = x; alike = al }, (z, e, h.3)),
+    record { alike = h.4.alike; stays = stays_on y.memory z.memory (h.1).memory f.stays h.4.stays },
+  )
 
   ran_step : (fs : List Bool) (a b : Tree) (rest others : Trees) (g : Operand false (type_of a) a b) (k : Operands fs rest others) → AreCarried (types_of (More a rest)) → (x y : State)
       (o r : Out (Option Value)) → Alike n E x y → expression b d y ≡ r → Ends (Given TypedValues (type_of a)) (After n E y) o r

@@ -1,12 +1,10 @@
 -- Laws of sizes, which are written as their values, and of conversions that aren't written.
 use Rattle.std.proofs.Common.{◌≡◌, ℕ, List, Bool, true, false, Option, Some, None, refl, sym, ap, ◌∙◌, subst, if◌then◌else◌}
 use Rattle.std.specs.Prelude.{option_map, ℤ, pos}
-use Rattle.std.specs.Option.{option_and_then}
 use Rattle.lane_core.specs.declared.number.IntType.{IntType}
 use Rattle.lane_core.specs.declared.number.IntType.TheVariants as int
-use Rattle.lane_core.specs.declared.number.Num.{Num}
 use Rattle.lane_core.specs.IntRange.{InRange}
-use Rattle.scalar_core.specs.Numbers.{num_of, converted}
+use Rattle.scalar_core.specs.Numbers.{num_of}
 use Rattle.scalar_core.specs.NumberLaws.{converted_type, converted_kept}
 use Rattle.const_imm.specs.Sizes.{size_of}
 use Rattle.c_text.specs.declared.tokens.Place.{Place}
@@ -14,12 +12,12 @@ use Rattle.c_tree.specs.declared.types.CType.{CType}
 use Rattle.c_tree.specs.Tree.{Tree, Node, Cast, SizeOfType, SizeOfName}
 use Rattle.c_memory.specs.declared.value.Value.{Value}
 use Rattle.c_memory.specs.Matching.{written_integer, written_type}
-use Rattle.c_memory.specs.MeaningState.{Binding, State, Out, Done, Turns, Undefined, Does, then_do, pure, defined, found, object_of}
+use Rattle.c_memory.specs.MeaningState.{Binding, State, Out, Done, Turns, Undefined, Does, then_do, pure, defined, found}
 use Rattle.c_memory.specs.MeaningValues.{converted_value}
 use Rattle.c_memory.specs.Meaning.{Calls, expression, size_value, give, type_of, cast_to}
 use Rattle.type_rules.specs.Types.{same_type, same_integer}
 use Rattle.simulation.specs.Alike.{Given, Options, Objects, Alike, After, Ends, Sim}
-use Rattle.simulation.specs.Carried.{Carried, Shared, Marks, Scope, carried, mark_of}
+use Rattle.simulation.specs.Carried.{Carried, Marks, Scope, mark_of}
 use Rattle.simulation.specs.Steps.{bind_sim, pure_sim, undefined_sim, defined_sim, give_sim, second_as}
 use Rattle.simulation.specs.ScopeLaws.{Binds, object_sim}
 use Rattle.written_forms.specs.TypedValues.{TypedValues}
@@ -28,7 +26,7 @@ use Rattle.written_forms.specs.Seen.{Local, Sees}
 use Rattle.written_forms.specs.Moved as moved
 use Rattle.written_forms.specs.Ready.{IsInt}
 use Rattle.written_forms.proofs.Agreeing.{Keeping, kept, way_of, Agrees}
-use Rattle.written_forms.proofs.Forms.{AreAlike, kept_cast_sim, as_type, int_of}
+use Rattle.written_forms.proofs.Forms.{kept_cast_sim, as_type, int_of}
 
 -- ---- sizes
 
@@ -121,9 +119,13 @@ as_other : (s t : IntType) (v w : Value) → same_integer (written_integer s) (w
 as_other s t v w e h = at v w (is_number s v h.1) h
   where
     at : (v w : Value) → IsNumber s v → TypedValues (CType.Int s) v w → Options (TypedValues (CType.Int t)) (converted_value (CType.Int t) v) (Some w)
-    at v (Value.Int k) (number m f) h =
-        ((h.0.0 ∙ ap written_integer f ∙ same_written s t e ∙ ap written_integer (sym (converted_type t m)),
-        converted_kept t m (same_range s t m.value e (subst (λ i. InRange i m.value) f m.in_range)) ∙ h.0.1), converted_type t m)
+    at v (Value.Int k) (number m f) h = (
+      (
+        h.0.0 ∙ ap written_integer f ∙ same_written s t e ∙ ap written_integer (sym (converted_type t m)),
+        converted_kept t m (same_range s t m.value e (subst (λ i. InRange i m.value) f m.in_range)) ∙ h.0.1,
+      ),
+      converted_type t m,
+    )
     at v w (number m f) h = absurd h.0
 
 given_as : (n : ℕ) (E : Objects) (s t : IntType) (u v : Option Value) → same_integer (written_integer s) (written_integer t) ≡ true → Given TypedValues (CType.Int s) u v

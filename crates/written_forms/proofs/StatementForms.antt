@@ -1,5 +1,5 @@
 -- The law of statements: what is written for the statements of a source does the same.
-use Rattle.std.proofs.Common.{◌≡◌, rules, arith, ℕ, List, [], ◌∷◌, Bool, true, false, ◌||◌, Option, Some, None, refl, sym, ap, ◌∙◌, subst, if◌then◌else◌}
+use Rattle.std.proofs.Common.{◌≡◌, arith, ℕ, List, [], ◌∷◌, Bool, true, false, ◌||◌, Option, Some, None, refl, sym, ap, subst, if◌then◌else◌}
 use Rattle.std.specs.Prelude.{option_map, is_some, pos}
 use Rattle.std.proofs.lemmas.Int.{ints}
 use Rattle.std.specs.Str.{bytes_eq}
@@ -8,34 +8,33 @@ use Rattle.lane_core.specs.declared.number.IntType.TheVariants as int
 use Rattle.lane_core.specs.declared.number.Num.{Num}
 use Rattle.c_text.specs.declared.tokens.Place.{Place}
 use Rattle.c_tree.specs.declared.types.CType.{CType}
-use Rattle.c_tree.specs.Tree.{Tree, Node, Const, Object, Statement, Statements, Optional, Declare, Run, Block, If, While, DoWhile, For, Break, Continue, Return, Empty, Absent, Present, NoStatements, Then}
-use Rattle.c_tree.specs.Types.{is_array}
-use Rattle.address_taken.specs.Addressed.{takes_optional, takes_declared, takes_statement, takes_statements}
+use Rattle.c_tree.specs.Tree.{Tree, Node, Const, Object, Statement, Block, If, Return, Absent, NoStatements, Then}
+use Rattle.address_taken.specs.Addressed.{takes_declared}
 use Rattle.c_memory.specs.declared.value.Value.{Value}
 use Rattle.c_memory.specs.Braces.{with_braces}
 use Rattle.c_memory.specs.Matching.{written_type}
-use Rattle.c_memory.specs.MeaningState.{Binding, State, Does, pure, scoped}
-use Rattle.c_memory.specs.Meaning.{Calls, expression, its_value, condition, type_of, Later, declare_one, declare, Flow, Next, optional_condition, optional_value, act, optional_act, optional_body, sequence, no_more}
+use Rattle.c_memory.specs.MeaningState.{Binding, State, Does, scoped}
+use Rattle.c_memory.specs.Meaning.{Calls, expression, its_value, condition, type_of, Later, declare_one, declare, Flow, optional_condition, optional_value, act, no_more}
 use Rattle.simulation.specs.Alike.{Given, Flows, Objects, Sim}
-use Rattle.simulation.specs.Carried.{Way, MayBeSet, Fixed, Carried, Shared, Mark, Marks, Unmarked, Scope, Within, inner, carried, mark_of}
+use Rattle.simulation.specs.Carried.{Carried, Shared, Marks, Unmarked, Scope, Within, inner, carried}
 use Rattle.simulation.specs.MemoryLaw.{TurnsLaw}
-use Rattle.simulation.specs.Steps.{weaker, pure_sim, second_as, bind_sim}
-use Rattle.simulation.specs.ScopeLaws.{within_none, within_more}
+use Rattle.simulation.specs.Steps.{pure_sim}
+use Rattle.simulation.specs.ScopeLaws.{within_more}
 use Rattle.simulation.specs.DeclareLaws.{in_block, unset_apart_sim, set_apart_first_sim}
 use Rattle.simulation.specs.ExpressionLaws.{valued_sim}
-use Rattle.simulation.specs.StatementLaws.{AreNext, declared_none_sim, declared_sim, declare_sim, run_sim, empty_sim, break_sim, continue_sim, return_none_sim, return_sim, block_sim, no_other_sim, if_sim, while_statement_sim, do_statement_sim, for_sim, no_statements_sim, then_statement_sim, then_declared_sim}
+use Rattle.simulation.specs.StatementLaws.{declared_none_sim, declared_sim, return_none_sim, return_sim}
 use Rattle.written_forms.specs.TypedValues.{TypedValues}
 use Rattle.written_forms.specs.Seen.{Local, local, Sees, with_local, beginning, declared}
 use Rattle.written_forms.specs.Moved as moved
-use Rattle.written_forms.specs.Statements.{moved_object, moved_objects, sees_objects, sees_behind, sees_optional, braced, braced_else, moved_statement, moved_optional, moved_else, moved_statements}
-use Rattle.written_forms.specs.Ready.{Setting, IsInt, IsCarried, Ready, assigns}
-use Rattle.written_forms.specs.ReadyStatements.{ReadyObject, ReadyObjects, ReadyFirst, ReadyCondition, ReadyStep, ReadyResult, ReadyStart, ReadyStatement, ReadyOptional, ReadyStatements}
+use Rattle.written_forms.specs.Statements.{moved_object, moved_objects, sees_objects, braced, braced_else}
+use Rattle.written_forms.specs.Ready.{Setting, IsInt, Ready, assigns}
+use Rattle.written_forms.specs.ReadyStatements.{ReadyObject, ReadyObjects, ReadyFirst, ReadyCondition, ReadyStep, ReadyResult}
 use Rattle.written_forms.proofs.Agreeing.{way_when, Agrees, SetsNone}
 use Rattle.written_forms.proofs.Calling.{CallsAgree}
 use Rattle.written_forms.proofs.Forms.{plain, plain_written, condition_sim}
 use Rattle.written_forms.proofs.Placing.{PlaceLaw}
 use Rattle.written_forms.proofs.Expressions.{moved_sim}
-use Rattle.written_forms.proofs.Addresses.{AddressLaw, or_false, taken, first_taken, first_written, declared_taken, declared_written, condition_taken, condition_written, step_taken, step_written, statement_taken, statement_written, statements_taken, statements_written, braced_takes}
+use Rattle.written_forms.proofs.Addresses.{AddressLaw, or_false, first_taken, first_written, declared_taken, declared_written}
 
 -- braces round a body change nothing
 abbrev pub BraceLaw : Type 0

@@ -1,13 +1,12 @@
 -- The law of statements: what is written for the statements of a source does the same.
-use Rattle.std.proofs.Common.{◌≡◌, ℕ, List, [], ◌∷◌, Bool, true, false, not, ◌&&◌, ◌||◌, Option, Some, None, refl, sym, ap, ◌∙◌, subst}
+use Rattle.std.proofs.Common.{◌≡◌, ℕ, List, [], false, ◌||◌, Option, refl}
 use Rattle.std.specs.Prelude.{option_map}
-use Rattle.c_text.specs.declared.tokens.Place.{Place}
 use Rattle.c_tree.specs.declared.types.CType.{CType}
 use Rattle.c_tree.specs.Tree.{Tree, Object, Statement, Statements, Optional, Declare, Run, Block, If, While, DoWhile, For, Break, Continue, Return, Empty, Absent, Present, NoStatements, Then}
 use Rattle.address_taken.specs.Addressed.{takes_optional, takes_statement, takes_statements}
-use Rattle.c_memory.specs.MeaningState.{Binding, ◌>>◌, pure, scoped}
-use Rattle.c_memory.specs.Meaning.{Calls, expression, condition, Later, declare, Flow, Next, Broke, Continued, act, optional_act, optional_body, sequence, no_more}
-use Rattle.simulation.specs.Alike.{Given, Flows, Objects, Sim}
+use Rattle.c_memory.specs.MeaningState.{Binding, scoped}
+use Rattle.c_memory.specs.Meaning.{Calls, Later, Next, act, optional_act, optional_body, sequence, no_more}
+use Rattle.simulation.specs.Alike.{Flows, Objects, Sim}
 use Rattle.simulation.specs.Carried.{Carried, Marks, Scope, Within}
 use Rattle.simulation.specs.Steps.{weaker, pure_sim, second_as, bind_sim, bind_same, choose_sim, while_sim, do_sim, with_step_sim}
 use Rattle.simulation.specs.ScopeLaws.{scoped_sim, within_none}
@@ -15,13 +14,13 @@ use Rattle.simulation.specs.StatementLaws.{AreNext, declare_sim, run_sim, empty_
 use Rattle.written_forms.specs.TypedValues.{TypedValues}
 use Rattle.written_forms.specs.Seen.{Sees}
 use Rattle.written_forms.specs.Moved as moved
-use Rattle.written_forms.specs.Statements.{moved_objects, sees_objects, sees_behind, sees_optional, braced, braced_else, moved_statement, moved_optional, moved_else, moved_statements}
-use Rattle.written_forms.specs.Ready.{Setting, Ready}
-use Rattle.written_forms.specs.ReadyStatements.{ReadyObjects, ReadyCondition, ReadyStep, ReadyStart, ReadyStatement, ReadyOptional, ReadyStatements}
+use Rattle.written_forms.specs.Statements.{moved_objects, sees_objects, sees_behind, sees_optional, braced, moved_statement, moved_optional, moved_else, moved_statements}
+use Rattle.written_forms.specs.Ready.{Setting}
+use Rattle.written_forms.specs.ReadyStatements.{ReadyObjects, ReadyStart, ReadyStatement, ReadyOptional, ReadyStatements}
 use Rattle.written_forms.proofs.Agreeing.{Agrees}
 use Rattle.written_forms.proofs.Calling.{CallsAgree}
 use Rattle.written_forms.proofs.Addresses.{or_false, condition_taken, condition_written, step_taken, step_written, statement_taken, statement_written, statements_taken, statements_written, braced_takes}
-use Rattle.written_forms.proofs.StatementForms.{FormLaws, braced_same, other_same, scope_behind, marks_behind, agrees_behind, within_behind, expression_sim, tested, maybe_tested, maybe_stepped, StepValues, returns, objects_sim}
+use Rattle.written_forms.proofs.StatementForms.{FormLaws, braced_same, other_same, scope_behind, marks_behind, agrees_behind, within_behind, expression_sim, tested, maybe_tested, maybe_stepped, returns, objects_sim}
 
 -- what is in scope behind a statement
 abbrev pub scope_after : Statement → List Carried → List Carried

@@ -1,26 +1,23 @@
 -- Laws of typed values: operators, conversions and steps give values of the types that C says.
-use Rattle.std.proofs.Common.{◌≡◌, ℕ, List, Bool, true, false, not, Option, Some, None, refl, sym, ap, ◌∙◌, subst}
-use Rattle.std.specs.Prelude.{option_map, IfSome, if◌then◌else◌}
-use Rattle.std.specs.Option.{option_and_then}
+use Rattle.std.proofs.Common.{◌≡◌, ℕ, Bool, true, not, Option, Some, None, refl, subst}
+use Rattle.std.specs.Prelude.{option_map, IfSome}
 use Rattle.lane_core.specs.declared.number.IntType.{IntType}
 use Rattle.lane_core.specs.declared.number.IntType.TheVariants as int
 use Rattle.lane_core.specs.declared.number.Num.{Num}
 use Rattle.lane_core.specs.declared.number.BinOp.{BinOp}
-use Rattle.lane_core.specs.declared.number.BinOp.TheVariants as op
 use Rattle.lane_core.specs.declared.number.UnOp.{UnOp}
 use Rattle.lane_core.specs.declared.number.UnOp.TheVariants as sign
-use Rattle.scalar_core.specs.Numbers.{num_of, converted}
+use Rattle.scalar_core.specs.Numbers.{num_of}
 use Rattle.scalar_core.specs.NumberLaws.{converted_type, num_of_parts}
 use Rattle.scalar_core.specs.Operators.{truth, HasType, binary_type, binary_of, unary_type, unary_of}
 use Rattle.scalar_core.specs.OperatorLaws.{binary_typed, unary_typed}
 use Rattle.const_imm.specs.Constant.{is_true}
 use Rattle.c_tree.specs.declared.types.CType.{CType}
-use Rattle.c_memory.specs.declared.blocks.Block.{Block}
 use Rattle.c_memory.specs.declared.value.Value.{Value}
 use Rattle.c_memory.specs.Matching.{written_integer}
 use Rattle.c_memory.specs.Values.{IsOfType}
-use Rattle.c_memory.specs.MeaningValues.{operate, operate_before, holds, as_int, converted_value}
-use Rattle.simulation.specs.Alike.{Options, Blocks}
+use Rattle.c_memory.specs.MeaningValues.{operate, operate_before, as_int, converted_value}
+use Rattle.simulation.specs.Alike.{Options}
 use Rattle.simulation.specs.WrittenValues.{WrittenValues}
 use Rattle.simulation.specs.ExpressionLaws.{Tests, OperatesBefore, Operates, OperatesInto, Converts, Steps, operates_into, steps_by}
 use Rattle.simulation.specs.WrittenLaws.{written_tests, written_operates, written_before, written_converts, written_truth, num_written, AreNumbers, numbers, are_numbers}

@@ -1,6 +1,5 @@
 -- The law of units: what is written for a unit of functions does the same.
-use Rattle.std.proofs.Common.{◌≡◌, ◌⊎◌, inl, inr, ℕ, ◌+◌, List, [], ◌∷◌, ◌++◌, map, length, Bool, true, false, not, ◌&&◌, ◌||◌, Option, Some, None, refl, sym, ap, ◌∙◌, subst, if◌then◌else◌}
-use Rattle.std.specs.Prelude.{IsTrue}
+use Rattle.std.proofs.Common.{◌≡◌, inl, inr, ℕ, ◌+◌, List, [], ◌∷◌, map, length, Bool, true, false, ◌||◌, Option, Some, None, refl, sym, ap, ◌∙◌, subst, if◌then◌else◌}
 use Rattle.std.specs.Str.{bytes_eq}
 use Rattle.std.proofs.lemmas.Slice.Eq.{bytes_eq-Decides}
 use Rattle.c_text.specs.declared.tokens.Place.{Place}
@@ -8,13 +7,13 @@ use Rattle.c_tree.specs.declared.types.CType.{CType}
 use Rattle.c_tree.specs.Tree.{Object, Definition, External, Function, Table}
 use Rattle.c_memory.specs.declared.blocks.Block.{Block}
 use Rattle.c_memory.specs.declared.value.Value.{Value}
-use Rattle.c_memory.specs.Functions.{types_of, none_named}
-use Rattle.c_memory.specs.Matching.{written_type, ArgumentsMatch}
-use Rattle.c_memory.specs.Values.{IsMemory, IsOfType, AreArguments}
-use Rattle.c_memory.specs.Written.{FunctionsMatch, UnitsMatch, NoItems, AndFunction, AndHelper, MatchingArguments, DoesTheSame}
-use Rattle.c_memory.specs.MeaningRows.{row_call, call_of_row}
-use Rattle.c_memory.specs.MeaningState.{Binding, State, Done, Does, then_do, pure, spend}
-use Rattle.c_memory.specs.Meaning.{Calls, call_of, is_helper, spend_for, with_function, functions, table_blocks, table_objects}
+use Rattle.c_memory.specs.Functions.{types_of}
+use Rattle.c_memory.specs.Matching.{written_type}
+use Rattle.c_memory.specs.Values.{AreArguments}
+use Rattle.c_memory.specs.Written.{UnitsMatch, NoItems, AndFunction, AndHelper, DoesTheSame}
+use Rattle.c_memory.specs.MeaningRows.{row_call}
+use Rattle.c_memory.specs.MeaningState.{Binding, State, Done}
+use Rattle.c_memory.specs.Meaning.{Calls, call_of, is_helper, with_function, functions, table_blocks, table_objects}
 use Rattle.intel_table.specs.declared.IntelOp.{IntelOp}
 use Rattle.intel_table.specs.Rows as intel
 use Rattle.neon_table.specs.declared.NeonOp.{NeonOp}
@@ -25,7 +24,7 @@ use Rattle.seq_core.specs.Values.{sequence_value}
 use Rattle.seq_core.specs.Functions.{start, function_of}
 use Rattle.seq_core.specs.Claims.{IsCallable, GivesItsValue, DoesTheSame as FunctionDoes}
 use Rattle.simulation.specs.Alike.{Arguments, CallsAlike, CallsTo}
-use Rattle.simulation.specs.Carried.{Marks, Scope}
+use Rattle.simulation.specs.Carried.{Marks}
 use Rattle.simulation.specs.FunctionLaws.{function_calls, other_calls}
 use Rattle.simulation.specs.MemoryLaw.{MemoryLaw}
 use Rattle.simulation.specs.Runs.{Runs, NoFunctions, AndBoth, AndHelper as HelperRuns, numbered}
@@ -36,13 +35,12 @@ use Rattle.written_forms.specs.TypedValues.{TypedValues}
 use Rattle.written_forms.specs.Seen.{sees_nothing}
 use Rattle.written_forms.specs.Moved.{Plans, helper_name}
 use Rattle.written_forms.specs.Statements.{moved_parameters, moved_function}
-use Rattle.written_forms.specs.Ready.{table, Heading, Setting}
-use Rattle.written_forms.specs.ReadyStatements.{ReadyFunction}
+use Rattle.written_forms.specs.Ready.{table, Heading}
 use Rattle.written_forms.proofs.Calling.{CallsAgree}
 use Rattle.written_forms.proofs.StatementForms.{FormLaws}
 use Rattle.written_forms.proofs.Functions.{function_alike}
-use Rattle.written_forms.specs.Helpers.{Use, has_name, helper_function, with_helpers, moved_items, moved_unit}
-use Rattle.written_forms.specs.ReadyUnits.{Heads, no_heads, with_head, IsFree, setting, ReadyItems, IsHelper, AreHelpers, Among, ReadyUnit}
+use Rattle.written_forms.specs.Helpers.{Use, has_name, helper_function, with_helpers, moved_items}
+use Rattle.written_forms.specs.ReadyUnits.{Heads, no_heads, with_head, IsFree, setting, ReadyItems, AreHelpers, Among, ReadyUnit}
 
 -- what is asked of the layers below
 pub record UnitLaws : Type 0 where

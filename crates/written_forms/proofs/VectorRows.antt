@@ -1,8 +1,7 @@
 -- A sequence that gives a row's value for all registers stands for the row.
-use Rattle.std.proofs.Common.{◌≡◌, inl, inr, ◌⊎◌, ℕ, ◌≤◌, List, [], ◌∷◌, map, length, Bool, true, false, ◌&&◌, Option, Some, None, refl, sym, ap, ◌∙◌, subst, arith, rules, nat_le, if◌then◌else◌}
-use Rattle.std.specs.Prelude.{option_map, pos, int_le, unsigned_abs, ◌++◌, ◌==◌}
+use Rattle.std.proofs.Common.{◌≡◌, inl, inr, ℕ, ◌≤◌, List, [], ◌∷◌, map, Bool, true, false, ◌&&◌, Option, Some, None, refl, sym, ap, ◌∙◌, subst, arith, rules, nat_le, if◌then◌else◌}
+use Rattle.std.specs.Prelude.{option_map, pos, int_le, unsigned_abs, ◌++◌}
 use Rattle.std.specs.Option.{option_and_then}
-use Rattle.std.proofs.lemmas.Int.{ints}
 use Rattle.lane_core.specs.declared.number.Num.{Num}
 use Rattle.lane_core.specs.declared.table.Arg.{Arg}
 use Rattle.lane_core.specs.declared.table.ImmRange.{ImmRange}
@@ -10,21 +9,21 @@ use Rattle.lane_core.specs.declared.table.ImmRange.TheVariants.{NoImmediate, Spa
 use Rattle.lane_core.specs.declared.table.ParamKind.{ParamKind}
 use Rattle.lane_core.specs.declared.table.ParamKind.TheVariants as kind
 use Rattle.lane_core.specs.Register.{IsRegister}
-use Rattle.lane_core.specs.Table.{params_of, reads, kinds_of, FitsKinds, Fits, FitsResult, InImmRange}
+use Rattle.lane_core.specs.Table.{params_of, reads, FitsKinds, Fits, FitsResult, InImmRange}
 use Rattle.c_tree.specs.declared.types.CType.{CType}
 use Rattle.c_memory.specs.declared.blocks.Block.{Block}
 use Rattle.c_memory.specs.declared.value.Value.{Value}
 use Rattle.c_memory.specs.Matching.{written_type}
-use Rattle.c_memory.specs.MeaningRows.{fits_kind, fits_kinds, is_in_range, argument, arguments, immediate, given, row_result}
+use Rattle.c_memory.specs.MeaningRows.{fits_kind, fits_kinds, is_in_range, argument, arguments, immediate, row_result}
 use Rattle.intel_table.specs.declared.IntelOp.{IntelOp}
 use Rattle.intel_table.specs.Laws.{gives_its_kind}
-use Rattle.intel_table.specs.Rows.{signature_of, range_of, accesses_of, eval_of}
+use Rattle.intel_table.specs.Rows.{signature_of, range_of, eval_of}
 use Rattle.seq_core.specs.Terms.{Sequence}
 use Rattle.seq_core.specs.Values.{as_arg, all_carried, evaluated, sequence_value}
 use Rattle.simulation.specs.Alike.{Arguments}
 use Rattle.type_rules.specs.Passing.{kind_type}
 use Rattle.written_forms.specs.TypedValues.{TypedValues}
-use Rattle.written_forms.specs.Ready.{table, operand_types, Filled, GivesAlike, Stands}
+use Rattle.written_forms.specs.Ready.{table, operand_types, Filled, GivesAlike}
 use Rattle.written_forms.specs.Vectors.{AreVectors, has_immediate, IsVectorRow, AreRegisters, vector_arguments, VectorRowsStand}
 
 -- operands are registers, the same in both
@@ -209,8 +208,16 @@ module _ (op : IntelOp) (imm : ℕ) (q : Sequence) (is : IsVectorRow op) (range 
   row_gives : (rs : List (List ℕ)) (r : List ℕ) → AreRegisters ks rs → eval_of op (vector_arguments ks rs) imm ≡ Arg.R16 r → (all : List Value) → Filled ks (map Value.R16 rs) all imm
       → (memory : List Block) → row_result table op all memory ≡ Some (Some (Value.R16 r), memory)
   row_gives rs r a e all f memory =
-      rw (fits imm ks is.params rs all a f, same_number imm ks is.params rs all a f zero_imm, in_range (range_of op) imm range, is.still, unread ks is.params,
-      same_arguments imm ks is.params rs all a f, e, is.result) refl
+      rw (
+        fits imm ks is.params rs all a f,
+        same_number imm ks is.params rs all a f zero_imm,
+        in_range (range_of op) imm range,
+        is.still,
+        unread ks is.params,
+        same_arguments imm ks is.params rs all a f,
+        e,
+        is.result,
+      ) refl
 
   sequence_gives : (rs : List (List ℕ)) (r : List ℕ) → AreRegisters ks rs → evaluated q (map Arg.R16 rs) ≡ Some (Arg.R16 r) → sequence_value q (map Value.R16 rs) ≡ Some (Some (Value.R16 r))
   sequence_gives rs r a e =

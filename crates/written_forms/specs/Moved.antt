@@ -12,7 +12,7 @@ use Rattle.const_imm.specs.Constant.{value_of}
 use Rattle.const_imm.specs.Sizes.{size_of}
 use Rattle.c_text.specs.declared.tokens.Place.{Place}
 use Rattle.c_tree.specs.declared.types.CType.{CType}
-use Rattle.c_tree.specs.Tree.{Tree, Kind, Trees, Node, Const, Name, Unary, Step, Binary, AndThen, OrElse, Choice, Assign, Comma, Cast, Index, Deref, Address, Call, Half, PairOf, SizeOfType, SizeOfName, Str, NoTrees, More}
+use Rattle.c_tree.specs.Tree.{Tree, Kind, Trees, Node, Const, Name, Unary, Step, Binary, AndThen, OrElse, Choice, Assign, Comma, Cast, Call, SizeOfType, SizeOfName, NoTrees, More}
 use Rattle.c_memory.specs.Matching.{written_integer, written_type}
 use Rattle.c_memory.specs.Meaning.{type_of}
 use Rattle.type_rules.specs.Types.{same_type}

@@ -1,6 +1,6 @@
 -- What is asked of the expressions of a source, so that what is written for them does the same: each part has the type that its place needs,
 -- each name stands for an object apart from memory, and each row has a sequence that stands for it.
-use Rattle.std.specs.Prelude.{◌≡◌, ◌<◌, ◌^◌, ℕ, Bool, true, false, ◌||◌, List, [], ◌∷◌, map, length, Option, Some, None, if◌then◌else◌, pos, int_le}
+use Rattle.std.specs.Prelude.{◌≡◌, ℕ, Bool, true, false, ◌||◌, List, [], ◌∷◌, map, Option, Some, None, pos}
 use Rattle.std.specs.Str.{bytes_eq}
 use Rattle.lane_core.specs.declared.number.IntType.{IntType}
 use Rattle.lane_core.specs.declared.number.IntType.TheVariants as int

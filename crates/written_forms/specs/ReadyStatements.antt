@@ -1,7 +1,7 @@
 -- What is asked of the statements and functions of a source, so that what is written for them does the same.
-use Rattle.std.specs.Prelude.{◌≡◌, ℕ, List, [], ◌∷◌, Option, Some, None}
+use Rattle.std.specs.Prelude.{◌≡◌, List, [], ◌∷◌, Option, Some, None}
 use Rattle.c_tree.specs.declared.types.CType.{CType}
-use Rattle.c_tree.specs.Tree.{Tree, Object, Statement, Statements, Optional, Declare, Run, Block, If, While, DoWhile, For, Break, Continue, Return, Empty, Absent, Present, NoStatements, Then}
+use Rattle.c_tree.specs.Tree.{Tree, Object, Statement, Statements, Optional, Declare, Run, Block, If, While, DoWhile, For, Return, Absent, Present, NoStatements, Then}
 use Rattle.c_tree.specs.Tree.{Definition}
 use Rattle.c_memory.specs.Meaning.{type_of}
 use Rattle.written_forms.specs.Seen.{Sees, sees_nothing, beginning, declared}

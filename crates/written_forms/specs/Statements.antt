@@ -1,10 +1,9 @@
 -- What the statements, functions and units of a source are written as.
-use Rattle.std.specs.Prelude.{ℕ, List, [], ◌∷◌, Option, Some, None, option_map}
-use Rattle.c_tree.specs.declared.types.CType.{CType}
-use Rattle.c_tree.specs.Tree.{Tree, Trees, Object, Statement, Statements, Optional, Declare, Run, Block, If, While, DoWhile, For, Break, Continue, Return, Empty, Absent, Present, NoStatements, Then}
-use Rattle.c_tree.specs.Tree.{Definition, External, Function, Table}
+use Rattle.std.specs.Prelude.{List, [], ◌∷◌, option_map}
+use Rattle.c_tree.specs.Tree.{Object, Statement, Statements, Optional, Declare, Run, Block, If, While, DoWhile, For, Break, Continue, Return, Empty, Absent, Present, NoStatements, Then}
+use Rattle.c_tree.specs.Tree.{Definition}
 use Rattle.c_memory.specs.Matching.{written_type}
-use Rattle.written_forms.specs.Seen.{Sees, sees_nothing, beginning, declared, with_parameter}
+use Rattle.written_forms.specs.Seen.{Sees, beginning, declared, with_parameter}
 use Rattle.written_forms.specs.Moved.{Plans, moved, moved_all}
 
 -- ---- objects

@@ -1,7 +1,6 @@
-use Rattle.std.proofs.Common.{refl, Some}
-use Rattle.c_memory.specs.MeaningRows.{call_of_row, found_call, row_call}
+use Rattle.std.proofs.Common.{refl}
+use Rattle.c_memory.specs.MeaningRows.{call_of_row}
 use Rattle.neon_table.specs.Found.{found_by_name}
-use Rattle.neon_table.specs.Rows.{find_of, name_of}
 use Rattle.seq_core.specs.Rows as neon
 use Rattle.written_forms.specs.Ready.{table}
 use Rattle.written_forms.proofs.UnitSims.{unit_does_the_same}
