@@ -41,7 +41,7 @@ fn row_called(line: &str) -> Option<(IntelOp, u16)> {
     Some((intel_table::find(name.as_bytes())?, imm))
 }
 
-// The row's sequence, where it has one of the arithmetic rows or of loads and stores.
+// The row's sequence, where it has one.
 fn sequence(alloc: Global, op: IntelOp, imm: u16) -> Result<Option<Seq>, AllocError>
     ensures { IfOk result (λ s. IfSome s (λ q. WellFormed (view_seq q))) }
 {
@@ -50,6 +50,9 @@ fn sequence(alloc: Global, op: IntelOp, imm: u16) -> Result<Option<Seq>, AllocEr
     }
     if seq_arith::is_arithmetic(op) && is_in_range(op, imm) {
         return Ok(Some(seq_arith::plan(alloc, op, imm)?));
+    }
+    if seq_pack::is_packing(op) && is_in_range(op, imm) {
+        return Ok(Some(seq_pack::plan(alloc, op, imm)?));
     }
     Ok(None)
 }
@@ -104,6 +107,6 @@ fn sequences_of_rows_are_as_a_processor_has_the_rows(rt: HostRuntime) -> Result<
     for part in &parts {
         count = count.saturating_add(sequences_are_called(&rt, alloc, part)?);
     }
-    assert_eq!(rt; count, 108);
+    assert_eq!(rt; count, 182);
     Ok(())
 }
