@@ -1,8 +1,9 @@
 -- The types of terms, and when a sequence is well formed.
-use Rattle.std.specs.Prelude.{◌≡◌, ◌<◌, IsTrue, List, [], ◌∷◌, ◌++◌, Bool, true, false, Option, Some, None, slice_get, if◌then◌else◌}
+use Rattle.std.specs.Prelude.{◌≡◌, ◌<◌, IsTrue, List, [], ◌∷◌, ◌++◌, Bool, true, false, Option, Some, None, slice_get, if◌then◌else◌, ℤ, pos, negsuc}
 use Rattle.std.specs.Option.{unwrap_or}
 use Rattle.lane_core.specs.declared.number.IntType.{IntType}
 use Rattle.lane_core.specs.declared.number.IntType.TheVariants as int
+use Rattle.lane_core.specs.declared.number.Num.{Num}
 use Rattle.lane_core.specs.declared.number.BinOp.{BinOp}
 use Rattle.lane_core.specs.declared.vector.NeonLane.TheVariants.{U8}
 use Rattle.lane_core.specs.declared.vector.Pointee.{Pointee}
@@ -85,6 +86,16 @@ abbrev pub IsInteger : CType → Type 0
 IsInteger (CType.Int t) = Unit {0}
 IsInteger _ = ⊥
 
+-- an integer type that is written by its own name: not plain `char`, which is signed in one dialect and unsigned in the other (C11 6.2.5p15)
+abbrev pub IsNamed : IntType → Type 0
+IsNamed int.Char = ⊥
+IsNamed _ = Unit {0}
+
+-- an operand of type u may be converted to the integer type t
+abbrev pub IsConverted : IntType → CType → Type 0
+IsConverted t (CType.Int u) = IsNamed t
+IsConverted t _ = ⊥
+
 -- an integer type that promotion leaves (C11 6.3.1.1p2)
 abbrev pub is_promoted : IntType → Bool
 is_promoted int.Int = true
@@ -94,6 +105,15 @@ is_promoted int.ULong = true
 is_promoted int.LLong = true
 is_promoted int.ULLong = true
 is_promoted _ = false
+
+-- a number that is not negative
+abbrev pub IsNatural : ℤ → Type 0
+IsNatural (pos n) = Unit {0}
+IsNatural (negsuc n) = ⊥
+
+-- a number that an integer constant of C has: of a promoted type, and not negative (C11 6.4.4.1)
+abbrev pub IsConstant : Num → Type 0
+IsConstant n = IsTrue (is_promoted n.ty) × IsNatural n.value
 
 abbrev pub IsPromoted : CType → Type 0
 IsPromoted (CType.Int t) = IsTrue (is_promoted t)
@@ -132,12 +152,12 @@ abbrev mutual
   IsFormed ps ss (Param n) = IsCarrier (type_of ps ss (Param n))
   IsFormed ps ss (Step n) = IsCarrier (type_of ps ss (Step n))
   IsFormed ps ss (Const r) = IsRegister 16 r
-  IsFormed ps ss (Int n) = Unit {0}
+  IsFormed ps ss (Int n) = IsConstant n
   IsFormed ps ss (Call op all imm) = (types_of ps ss all ≡ operand_types (params_of (signature_of op))) × InImmRange (range_of op) imm × AreFormed ps ss all
   IsFormed ps ss (PairOf a b) = (type_of ps ss a ≡ vector) × (type_of ps ss b ≡ vector) × IsFormed ps ss a × IsFormed ps ss b
   IsFormed ps ss (Half a k) = (type_of ps ss a ≡ CType.Pair) × (k < 2) × IsFormed ps ss a
   IsFormed ps ss (Scalar o a b) = IsPromoted (type_of ps ss a) × StandsBeside o (type_of ps ss a) (type_of ps ss b) × IsFormed ps ss a × IsFormed ps ss b
-  IsFormed ps ss (Convert t a) = IsInteger (type_of ps ss a) × IsFormed ps ss a
+  IsFormed ps ss (Convert t a) = IsConverted t (type_of ps ss a) × IsFormed ps ss a
   IsFormed ps ss (Choice c a b) = IsInteger (type_of ps ss c) × IsChoosable (type_of ps ss a) × (type_of ps ss b ≡ type_of ps ss a) × IsFormed ps ss c × IsFormed ps ss a × IsFormed ps ss b
   IsFormed ps ss (Shifted a b) = IsPointer (type_of ps ss a) × IsInteger (type_of ps ss b) × IsFormed ps ss a × IsFormed ps ss b
   IsFormed ps ss (ByteAt a) = IsBytePointer (type_of ps ss a) × IsFormed ps ss a
@@ -159,3 +179,15 @@ FormedFrom ps ss (t ∷ rest) result = IsFormed ps ss t × FormedFrom ps (ss ++ 
 
 abbrev pub WellFormed : Sequence → Type 0
 WellFormed s = AreCarriers s.params × FormedFrom s.params [] s.steps s.result
+
+-- the type of the value behind the steps; `void` where there is none
+abbrev pub given_type : List CType → List CType → Option Term → CType
+given_type ps ss None = CType.Void
+given_type ps ss (Some t) = type_of ps ss t
+
+abbrev pub type_behind : List CType → List CType → List Term → Option Term → CType
+type_behind ps ss [] result = given_type ps ss result
+type_behind ps ss (t ∷ rest) result = type_behind ps (ss ++ type_of ps ss t ∷ []) rest result
+
+abbrev pub sequence_type : Sequence → CType
+sequence_type s = type_behind s.params [] s.steps s.result

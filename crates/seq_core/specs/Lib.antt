@@ -4,6 +4,7 @@ pub mod Rows
 pub mod Values
 pub mod Actions
 pub mod Formed
+pub mod Constants
 pub mod Called
 pub mod Written
 pub mod Functions

@@ -1,7 +1,9 @@
 -- What holds of every plan.
 use Rattle.std.specs.Prelude.{◌==◌, if◌then◌else◌}
-use Rattle.std.proofs.Common.{rules, ◌≡◌, ◌≤◌, ◌∙◌, ℕ, List, [], ◌∷◌, Bool, true, false, Some, refl, ap, sym, subst, arith, length}
+use Rattle.std.proofs.lemmas.Int.{ints}
+use Rattle.std.proofs.Common.{rules, refl, pos, ◌≡◌, ◌≤◌, ◌∙◌, ℕ, List, [], ◌∷◌, Bool, true, false, Some, ap, sym, subst, arith, length}
 use Rattle.scalar_core.specs.Numbers.{num_of}
+use Rattle.lane_core.specs.declared.number.IntType.TheVariants as int
 use Rattle.intel_lanes.specs.declared.lanes.Width.TheVariants.{Qword}
 use Rattle.intel_forms.specs.Forms.{is_scalar}
 use Rattle.intel_forms.specs.declared.forms.Form.{Form}
@@ -24,7 +26,8 @@ use Rattle.neon_table.specs.Rows.{of_move}
 use Rattle.seq_core.specs.Actions.{sequence_in}
 use Rattle.seq_core.specs.Terms.{Sequence, Param}
 use Rattle.seq_core.specs.Called.{plain, rows_called}
-use Rattle.seq_core.specs.Formed.{WellFormed}
+use Rattle.seq_core.specs.Formed.{WellFormed, IsConstant}
+use Rattle.seq_core.specs.Constants.{natural_is_constant}
 use Rattle.seq_memory.specs.Plans.{one, two, reading, storing, low_loaded, low_stored, masked_qwords, gathered_qwords, merged_qwords, power_of, plan_of, ceiling_of}
 use Rattle.seq_memory.specs.Claims.{Asked, operands, DoesAsTheRow}
 use Rattle.seq_memory.proofs.Moves.{Directly, loads, stores}
@@ -65,13 +68,19 @@ does op _ imm e q h = absurd (grind (arith, h))
 abbrev pub Fine : Form → Sequence → Type 0
 Fine f q = WellFormed q × (length (rows_called q) ≤ ceiling_of f) × (is_scalar f ≡ false → plain q ≡ true)
 
+no_bits : IsConstant (num_of int.ULong (pos 0))
+no_bits = natural_is_constant int.ULong 0 refl (omega (arith, ints), omega (arith, ints))
+
+eight : IsConstant (num_of int.Int (pos 8))
+eight = natural_is_constant int.Int 8 refl (omega (arith, ints), omega (arith, ints))
+
 low_load_fine : Fine (form.Memory row.LoadLow) (reading low_loaded)
 unfolding num_of
-low_load_fine = search (rules, arith) depth 16
+low_load_fine = search (rules, arith, no_bits) depth 16
 
 masked_fine : Fine (form.Memory (row.MaskLoad Xmm Qword)) masked_qwords
 unfolding num_of
-masked_fine = search (rules, arith) depth 24
+masked_fine = search (rules, arith, no_bits, eight) depth 24
 
 power_below : (s : ℕ) → power_of s ≤ 63
 power_below s = by_eight (s == 8)
@@ -89,10 +98,10 @@ power_below s = by_eight (s == 8)
     by_eight false = by_four (s == 4) (s == 2)
 
 gathers_fine : (imm : ℕ) → Fine (form.Memory (row.Gather Xmm QwordsByDwords)) (gathered_qwords imm)
-gathers_fine imm = let l = power_below imm in search (rules, arith, l) depth 24
+gathers_fine imm = let l = power_below imm in search (rules, arith, l, eight) depth 24
 
 merges_fine : (imm : ℕ) → Fine (form.Memory (row.MaskGather Xmm QwordsByDwords)) (merged_qwords imm)
-merges_fine imm = let l = power_below imm in search (rules, arith, l) depth 24
+merges_fine imm = let l = power_below imm in search (rules, arith, l, eight) depth 24
 
 pub fine : (f : Form) (imm : ℕ) (q : Sequence) → plan_of f imm ≡ Some q → Fine f q
 fine (form.Memory (row.Load Xmm aligned)) imm q h = subst (Fine (form.Memory (row.Load Xmm aligned))) (same h) (search (rules, arith) depth 12)

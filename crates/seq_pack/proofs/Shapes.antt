@@ -1,6 +1,8 @@
 -- Each sequence is well formed, takes and gives what its row does, and calls the rows that are due.
-use Rattle.std.proofs.Common.{◌≡◌, ℕ, ◌+◌, ◌≤◌, ◌^◌, List, [], ◌∷◌, length, map, Bool, true, false, Option, Some, None, arith, rules}
+use Rattle.std.proofs.Common.{◌≡◌, refl, pos, ℕ, ◌+◌, ◌≤◌, ◌^◌, List, [], ◌∷◌, length, map, Bool, true, false, Option, Some, None, arith, rules}
+use Rattle.std.proofs.lemmas.Int.{ints}
 use Rattle.std.specs.Prelude.{◌==◌, if◌then◌else◌}
+use Rattle.lane_core.specs.declared.number.IntType.TheVariants as int
 use Rattle.lane_core.specs.Table.{InImmRange}
 use Rattle.lane_core.proofs.Laws.{IsRegister-zeros}
 use Rattle.intel_lanes.specs.declared.lanes.Width.{Width}
@@ -21,7 +23,8 @@ use Rattle.intel_forms.specs.declared.forms.Form.TheVariants as form
 use Rattle.intel_forms.specs.Forms.{signature_of, range_of, is_scalar}
 use Rattle.neon_table.specs.Rows.{name_of}
 use Rattle.seq_core.specs.Terms.{Sequence, Param}
-use Rattle.seq_core.specs.Formed.{WellFormed, vector}
+use Rattle.seq_core.specs.Formed.{WellFormed, vector, IsConstant}
+use Rattle.seq_core.specs.Constants.{natural_is_constant}
 use Rattle.seq_core.specs.Called.{rows_called, plain}
 use Rattle.seq_pack.specs.Calls.{over}
 use Rattle.seq_pack.specs.Terms.{halves, by_mask}
@@ -101,15 +104,21 @@ with_lane_whole Word imm r = search (rules, arith, r) depth 20
 with_lane_whole Dword imm r = search (rules, arith, r) depth 20
 with_lane_whole Qword imm r = search (rules, arith, r) depth 20
 
+no_bits : IsConstant (num_of int.UInt (pos 0))
+no_bits = natural_is_constant int.UInt 0 refl (omega (arith, ints), omega (arith, ints))
+
+all_bits : IsConstant (num_of int.Int (pos 255))
+all_bits = natural_is_constant int.Int 255 refl (omega (arith, ints), omega (arith, ints))
+
 tested_whole : (test : Test) (imm : ℕ) → Whole (form.Scalar (scalar.Tested Xmm test)) imm
 unfolding num_of
-tested_whole Zero imm = search (rules, arith) depth 20
-tested_whole Carry imm = search (rules, arith) depth 20
-tested_whole Neither imm = search (rules, arith) depth 24
+tested_whole Zero imm = search (rules, arith, no_bits) depth 20
+tested_whole Carry imm = search (rules, arith, no_bits) depth 20
+tested_whole Neither imm = search (rules, arith, no_bits) depth 24
 
 ones_whole : (imm : ℕ) → Whole (form.Scalar scalar.TestedOnes) imm
 unfolding num_of
-ones_whole imm = search (rules, arith) depth 20
+ones_whole imm = search (rules, arith, all_bits) depth 20
 
 least_whole : (imm : ℕ) → Whole (form.One Xmm one.MinPosition) imm
 least_whole imm = search (rules, arith, numbers_register, ones_register, IsRegister-zeros) depth 24
