@@ -9,3 +9,4 @@ pub mod Dwords
 pub mod Amounts
 pub mod Values
 pub mod Shapes
+pub mod Typed

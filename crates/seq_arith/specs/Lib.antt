@@ -4,3 +4,4 @@ pub mod Counts
 pub mod Rows
 pub mod Plans
 pub mod Listed
+pub mod Claims

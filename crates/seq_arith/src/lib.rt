@@ -3,8 +3,10 @@
 
 mod calls;
 mod counts;
+mod laws;
 mod plans;
 mod products;
 mod rows;
 
+pub use laws::plans_are_rows;
 pub use plans::{is_arithmetic, plan};

@@ -8,3 +8,4 @@ pub mod Places
 pub mod Lanes
 pub mod Values
 pub mod Shapes
+pub mod Planned

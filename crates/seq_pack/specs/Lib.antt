@@ -4,3 +4,4 @@ pub mod Tests
 pub mod Sets
 pub mod Plans
 pub mod Listed
+pub mod Claims

@@ -2,9 +2,11 @@
 #![tactic(auto)]
 
 mod calls;
+mod laws;
 mod plans;
 mod sets;
 mod terms;
 mod tests;
 
+pub use laws::plans_are_rows;
 pub use plans::{is_packing, plan};

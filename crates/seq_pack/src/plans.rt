@@ -243,6 +243,7 @@ fn listed(alloc: Global, op: IntelOp, imm: u16) -> Result<Seq, AllocError>
 pub fn plan(alloc: Global, op: IntelOp, imm: u16) -> Result<Seq, AllocError>
     requires ours { is_packing op ≡ true }
     requires range { InImmRange (range_of op) imm }
+    ensures sequence { IfOk result (λ s. plan_of op imm ≡ Some (view_seq s)) }
     ensures value { IfOk result (λ s. (args : List Arg) → Fits (signature_of op) args → evaluated (view_seq s) (operands (params_of (signature_of op)) args) ≡ Some (eval_of op args imm)) }
     ensures formed { IfOk result (λ s. WellFormed (view_seq s)) }
     ensures typed { IfOk result (λ s. IsTyped (signature_of op) (view_seq s)) }

@@ -4,3 +4,4 @@ pub mod Moves
 pub mod Planned
 pub mod Rows
 pub mod Selected
+pub mod Serving

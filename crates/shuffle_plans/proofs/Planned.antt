@@ -39,7 +39,7 @@ use Rattle.seq_core.specs.View.{view_seq}
 use Rattle.seq_core.specs.Rows.{is_reinterpreting, is_broadcasting, is_by_element}
 use Rattle.seq_core.specs.Terms.{Term, Terms, Param, Const, Call, PairOf, NoTerms, More, Sequence}
 use Rattle.seq_core.specs.Values.{evaluated, as_arg}
-use Rattle.seq_core.specs.Formed.{vector, type_of, type_of_kind, operand_types, IsCarrier, IsFormed, WellFormed}
+use Rattle.seq_core.specs.Formed.{vector, type_of, type_of_kind, operand_types, IsCarrier, IsFormed, WellFormed, sequence_type}
 use Rattle.seq_core.specs.Called.{is_plain, are_constants, is_counted, rows_in, rows_called, plain}
 use Rattle.shuffle_plans.specs.Operands.{selected, IsPlace, picks, block_of, first_operand, second_operand}
 use Rattle.shuffle_plans.specs.Selections.{is_shuffle, picked_at}
@@ -101,14 +101,14 @@ registers _ half _ s l h = absurd (grind (arith, s, h))
 places_there : PicksArePlaces → (r : Row) (imm half : ℕ) → half ≤ 1 → (i : ℕ) → i < 16 → IsPlace (get_or (picks (picked_at r imm half)) i pick.Zero)
 places_there law r imm half l i k = subst IsPlace (sym (pick_there (picked_at r imm half) i k)) (law r imm half i l k)
 
-block_value : PicksArePlaces → (r : Row) (imm half : ℕ) (f : Form) → is_shuffle r ≡ true → half ≤ 1 → IsForm f → gives_of f (picks (picked_at r imm half)) ≡ true → GivesTheBlock r imm half (plan_by f r imm half)
+pub block_value : PicksArePlaces → (r : Row) (imm half : ℕ) (f : Form) → is_shuffle r ≡ true → half ≤ 1 → IsForm f → gives_of f (picks (picked_at r imm half)) ≡ true → GivesTheBlock r imm half (plan_by f r imm half)
 block_value law r imm half f s l g h args fit =
     let q = registers r half args s l fit in
     either_value (has_two r) f (picks (picked_at r imm half)) (first_operand r half args) (second_operand r half args) (same_operand r half args s) g h refl (places_there law r imm half l) q.0 q.1
     ∙ ap (λ x. Some (arg.R16 x)) (sym (selections_are_rows r args imm half s fit l))
 
 -- a row of 128 bits has its vectors as operands, and its value is the block
-whole_value : (r : Row) (imm half : ℕ) (q : Sequence) → is_shuffle r ≡ true → GivesTheBlock r imm half q → GivesTheRow r imm q
+pub whole_value : (r : Row) (imm half : ℕ) (q : Sequence) → is_shuffle r ≡ true → GivesTheBlock r imm half q → GivesTheRow r imm q
 whole_value (row.One Xmm o) imm half q s g (arg.R16 a ∷ []) w fit = g (arg.R16 a ∷ []) fit
 whole_value (row.OneImm Xmm o) imm half q s g (arg.R16 a ∷ arg.Nothing ∷ []) w fit = g (arg.R16 a ∷ arg.Nothing ∷ []) fit
 whole_value (row.Broadcast Xmm width) imm half q s g (arg.R16 a ∷ []) w fit = g (arg.R16 a ∷ []) fit
@@ -252,13 +252,13 @@ form_fine ps (Table x) want s t g h i =
 form_fine ps TablePair want s t g h i =
     fine_two (of_move (op.Bytes bytes.Vqtbl2qU8)) 0 ps CType.Pair vector (PairOf s t) (Const (indices index_in_pair want)) (refl, (h.0, i.0, h.1, i.1), rw (h.2, i.2) refl, rw (h.3, i.3) refl) (indices_fine ps index_in_pair want) refl refl refl refl
 
-abbrev IsFine : Form → Sequence → Type 0
+abbrev pub IsFine : Form → Sequence → Type 0
 IsFine f q = WellFormed q × (plain q ≡ true) × (rows_called q ≡ calls_of f)
 
 from_fine : (ps : List CType) (t : Term) (rows : List NeonOp) → Fine ps vector rows t → IsCarrier (type_of ps [] t) × IsFormed ps [] t
 from_fine ps t rows h = (subst IsCarrier (sym h.0) tt, h.1)
 
-sequence_fine : (two : Bool) (f : Form) (want : List Pick) → IsForm f → IsFine f (sequence_of two f want)
+pub sequence_fine : (two : Bool) (f : Form) (want : List Pick) → IsForm f → IsFine f (sequence_of two f want)
 sequence_fine true f want g =
     let ps = vector ∷ vector ∷ [] in
     let h = form_fine ps f want (Param 0) (Param 1) g (refl, tt, refl, refl) (refl, tt, refl, refl) in
@@ -267,6 +267,10 @@ sequence_fine false f want g =
     let ps = vector ∷ [] in
     let h = form_fine ps f want (Param 0) (Param 0) g (refl, tt, refl, refl) (refl, tt, refl, refl) in
     (((tt, tt), from_fine ps (form_term f want (Param 0) (Param 0)) (calls_of f) h), h.2, h.3)
+
+pub form_type : (two : Bool) (f : Form) (want : List Pick) → IsForm f → sequence_type (sequence_of two f want) ≡ vector
+form_type true f want g = (form_fine (vector ∷ vector ∷ []) f want (Param 0) (Param 1) g (refl, tt, refl, refl) (refl, tt, refl, refl)).0
+form_type false f want g = (form_fine (vector ∷ []) f want (Param 0) (Param 0) g (refl, tt, refl, refl) (refl, tt, refl, refl)).0
 
 few : (f : Form) → length (calls_of f) ≤ 1
 few (Same x) = omega arith

@@ -3,3 +3,4 @@ pub mod Operands
 pub mod Plans
 pub mod Selections
 pub mod Sequences
+pub mod Claims

@@ -1,5 +1,6 @@
 //! What holds of selections.
 
+ghost use Rattle.shuffle_plans.specs.Claims.{FormsServe};
 ghost use Rattle.shuffle_plans.specs.Laws.{SelectionsAreRows, PicksArePlaces};
 ghost use Rattle.shuffle_plans.specs.Plans.{FormsGive};
 
@@ -14,3 +15,11 @@ pub fn selections_are_rows()
 pub fn forms_give()
     ensures { FormsGive }
 {}
+
+/// Where a form of the list gives the selection of a row, its sequence is well formed, takes a carrier for each vector of the row and gives one, and for a
+/// row of 128 bits its value is the row's for all arguments. This runs nothing.
+pub fn forms_serve()
+    ensures { FormsServe }
+{
+    selections_are_rows();
+}

@@ -7,7 +7,7 @@ mod plans;
 mod selections;
 mod sequences;
 
-pub use laws::{forms_give, selections_are_rows};
+pub use laws::{forms_give, forms_serve, selections_are_rows};
 pub use listed::forms;
 pub use plans::plan;
 pub use price_choice::{Chooser, Form, FormKind, Pick, Side};
