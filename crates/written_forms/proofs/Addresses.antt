@@ -1,5 +1,5 @@
 -- No address is taken in what is moved, nor in what is written for it.
-use Rattle.std.proofs.Common.{◌≡◌, ℕ, zero, suc, List, [], ◌∷◌, Bool, true, false, not, ◌&&◌, ◌||◌, Option, Some, None, refl, if◌then◌else◌}
+use Rattle.std.proofs.Common.{◌≡◌, ℕ, zero, suc, List, [], ◌∷◌, Bool, true, false, not, ◌&&◌, ◌||◌, Option, Some, None, refl, ◌∙◌, if◌then◌else◌}
 use Rattle.std.specs.Prelude.{option_map, get_or}
 use Rattle.std.specs.Str.{bytes_eq}
 use Rattle.lane_core.specs.declared.table.ParamKind.{ParamKind}
@@ -7,6 +7,7 @@ use Rattle.lane_core.specs.declared.table.ParamKind.TheVariants as kind
 use Rattle.lane_core.specs.Table.{params_of}
 use Rattle.c_text.specs.declared.tokens.Place.{Place}
 use Rattle.c_tree.specs.declared.types.CType.{CType}
+use Rattle.c_tree.specs.Nodes.{node_place}
 use Rattle.c_tree.specs.Tree.{Tree, Kind, Trees, Node, Const, Name, Unary, Step, Binary, AndThen, OrElse, Choice, Assign, Comma, Cast, Call, SizeOfType, SizeOfName, NoTrees, More}
 use Rattle.c_tree.specs.Tree.{Object, Statement, Statements, Optional, Declare, Run, Block, If, While, DoWhile, For, Break, Continue, Return, Empty, Absent, Present, NoStatements, Then}
 use Rattle.c_memory.specs.Matching.{written_type}
@@ -21,10 +22,11 @@ use Rattle.seq_core.specs.InPlace.{stands_in_place, in_place, TakesNoAddress}
 use Rattle.seq_core.specs.Listed.{listed}
 use Rattle.written_forms.specs.Seen.{Sees, beginning, declared}
 use Rattle.written_forms.specs.Moved as moved
-use Rattle.written_forms.specs.Moved.{Plans, operands, immediate_among, helper_name, simple, moved_kind, moved_all, row_written, called, size_of_local}
+use Rattle.written_forms.specs.Moved.{Plans, operands, immediate_among, helper_name, simple, moved_kind, moved_all, all_stated, row_written, called, size_of_local}
 use Rattle.written_forms.specs.Statements.{moved_objects, sees_behind, sees_optional, braced, braced_else, moved_statement, moved_optional, moved_else, moved_statements}
 use Rattle.written_forms.specs.Ready.{Setting, Ready, ReadyKind, AreReady}
 use Rattle.written_forms.specs.ReadyStatements.{ReadyObjects, ReadyFirst, ReadyCondition, ReadyStep, ReadyResult, ReadyStart, ReadyStatement, ReadyOptional, ReadyStatements}
+use Rattle.written_forms.proofs.StatedOperands.{stated_takes}
 
 pub or_false : {a b : Bool} → a ≡ false → b ≡ false → (a || b) ≡ false
 or_false h i = rw (h, i) refl
@@ -84,6 +86,10 @@ module _ (law : AddressLaw) (w : Setting) where
   one_of (More a rest) h x zero e i = h.0 x
   one_of (More a rest) h x (suc n) e i = one_of rest h.1 x n e i
 
+  none_stated : (all : Trees) → NoneTakes all → NoneTakes (all_stated all)
+  none_stated NoTrees h = tt
+  none_stated (More a rest) h = (λ x. stated_takes x a ∙ h.0 x, none_stated rest h.1)
+
   operands_take : (ks : List ParamKind) (all : Trees) → NoneTakes all → NoneTakes (operands ks all)
   operands_take [] all h = tt
   operands_take (kind.Immediate ∷ ks) NoTrees h = tt
@@ -95,7 +101,7 @@ module _ (law : AddressLaw) (w : Setting) where
   cast_takes p t s a true x h = h
   cast_takes p t s a false x h = at (same_type s t)
     where
-      at : (v : Bool) → takes x (if v then a else Node p t (Cast t a false)) ≡ false
+      at : (v : Bool) → takes x (if v then a else Node (node_place a) t (Cast t a false)) ≡ false
       at true = h
       at false = h
 
@@ -107,8 +113,8 @@ module _ (law : AddressLaw) (w : Setting) where
   row_takes p t name None flags args x h = any_of x args h
   row_takes p t name (Some q) flags args x h = at (stands_in_place flags q)
     where
-      at : (v : Bool) → takes x (if v then in_place p (listed args) q.result else Node p t (Call name args)) ≡ false
-      at true = law p (listed args) q (one_of args h) x
+      at : (v : Bool) → takes x (if v then in_place p (listed (all_stated args)) q.result else Node p t (Call name args)) ≡ false
+      at true = law p (listed (all_stated args)) q (one_of (all_stated args) (none_stated args h)) x
       at false = any_of x args h
 
   called_takes : (sees : Sees) (p : Place) (t : CType) (f : List ℕ) (o : Option IntelOp) (all args : Trees) (x : List ℕ) → NoneTakes args

@@ -24,7 +24,7 @@ use Rattle.written_forms.specs.TypedValues.{TypedValues}
 use Rattle.written_forms.proofs.TypedLaws.{typed_constant}
 use Rattle.written_forms.specs.Seen.{Local, Sees}
 use Rattle.written_forms.specs.Moved as moved
-use Rattle.written_forms.specs.Moved.{Plans, operands, immediate_among, helper_name, are_plain, is_steady, is_steady_local, steady, simple, all_true, moved_kind, moved_all, row_written, called, size_of_local}
+use Rattle.written_forms.specs.Moved.{Plans, operands, immediate_among, helper_name, are_plain, is_steady, is_steady_local, steady, simple, all_true, moved_kind, moved_all, all_stated, row_written, called, size_of_local}
 use Rattle.written_forms.specs.Ready.{Setting, IsSeen, IsCarried, assigns, any_assigns, AllStayAmong, StayUnless, EndsIn, CallsRow, IsCall, Ready, ReadyKind, AreReady}
 use Rattle.written_forms.proofs.Agreeing.{Keeping, kept, way_of, Agrees, SetsNone}
 use Rattle.written_forms.proofs.Calling.{CallsAgree}
@@ -146,13 +146,13 @@ module _ (law : PlaceLaw) (n : ℕ) (c d : Calls) (w : Setting) (sees : Sees) (c
     ops = operands kinds all
 
     abbrev Placed : Type 0
-    Placed = Sim n (Given TypedValues t) E E (expression (Node p t (Call f all)) c) (expression (in_place p (listed (moved_all w.plans sees ops)) is.plan.result) d)
+    Placed = Sim n (Given TypedValues t) E E (expression (Node p t (Call f all)) c) (expression (in_place p (listed (all_stated (moved_all w.plans sees ops))) is.plan.result) d)
 
     placed : SetsNone keeps (λ x. any_assigns x ops) → OperandsMove ops → (v : Bool) → are_plain ops ≡ v → StayUnless v ops
         → stands_in_place (if v then all_true ops else steady sees ops) is.plan ≡ true → Placed
     placed none move true h stay st = plain_sim law n E c d w sees calls t f op all found is ready p p h st (move scope ks keeps ag none)
     placed none move false h stay st =
-        keep_all n (Given TypedValues t) (expression (Node p t (Call f all)) c) (expression (in_place p (listed (moved_all w.plans sees ops)) is.plan.result) d) sees (λ x. any_assigns x ops)
+        keep_all n (Given TypedValues t) (expression (Node p t (Call f all)) c) (expression (in_place p (listed (all_stated (moved_all w.plans sees ops))) is.plan.result) d) sees (λ x. any_assigns x ops)
         ops scope ks keeps ag none (none_sets ops ops stay) (λ scope2 ks2 more ag2 none2 grow kept_all.
         mixed_sim law n (Scope TypedValues scope2 ks2) c d w sees calls t f op all found is ready p p (steady sees ops) st
         (all_known n c d w sees scope2 ks2 more ag2 ops (ready_operands w sees kinds all ready) kept_all (move scope2 ks2 more ag2 none2)))
@@ -165,7 +165,7 @@ module _ (law : PlaceLaw) (n : ℕ) (c d : Calls) (w : Setting) (sees : Sees) (c
       where
         at : (v : Bool) → stands_in_place (simple sees ops) is.plan ≡ v
             → Sim n (Given TypedValues t) E E (expression (Node p t (Call f all)) c)
-            (expression (if v then in_place p (listed (moved_all w.plans sees ops)) is.plan.result
+            (expression (if v then in_place p (listed (all_stated (moved_all w.plans sees ops))) is.plan.result
             else Node p (written_type t) (Call (helper_name f (range_of op) (immediate_among kinds all)) (moved_all w.plans sees ops))) d)
         at true e = placed none move (are_plain ops) refl is.undisturbed e
         at false e =

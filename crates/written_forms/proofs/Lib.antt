@@ -7,6 +7,7 @@ mod Sizes
 mod Arguments
 mod Running
 mod AmongOthers
+mod StatedOperands
 mod Holding
 mod PlainOperands
 mod Placing
@@ -17,4 +18,7 @@ mod StatementSims
 mod Functions
 mod UnitSims
 mod VectorRows
+mod PassedNumbers
+mod ValueTypes
+mod ScalarRows
 mod Example

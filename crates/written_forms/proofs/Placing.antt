@@ -20,7 +20,7 @@ use Rattle.simulation.specs.Alike.{Given, Arguments, Objects, Alike, After, Ends
 use Rattle.simulation.specs.Steps.{after_same}
 use Rattle.written_forms.specs.TypedValues.{TypedValues}
 use Rattle.written_forms.specs.Seen.{Sees}
-use Rattle.written_forms.specs.Moved.{Plans, operands, immediate_among, are_plain, all_true, moved, moved_all}
+use Rattle.written_forms.specs.Moved.{Plans, operands, immediate_among, are_plain, all_true, moved, moved_all, all_stated}
 use Rattle.written_forms.specs.Ready.{Filled, GivesAlike, IsConstant, HasImmediate, Setting, types_of, CallsRow, AreReady}
 use Rattle.written_forms.proofs.Constants.{runs}
 use Rattle.written_forms.proofs.Calling.{CallsAgree}
@@ -28,6 +28,7 @@ use Rattle.written_forms.proofs.Arguments.{AllAlike, of_types, source_gives}
 use Rattle.written_forms.proofs.Running.{Operands, Ended, ends, Stated}
 use Rattle.written_forms.proofs.AmongOthers.{readable, whole, no_compounds, runs_among, runs_out_among}
 use Rattle.written_forms.proofs.PlainOperands.{PlainlyEnded, plain_ends, plainly_readable}
+use Rattle.written_forms.proofs.StatedOperands.{read_stated, operands_stated}
 
 -- the laws of sequences in place
 pub record PlaceLaw : Type 0 where
@@ -122,8 +123,11 @@ module _ (law : PlaceLaw) (n : ℕ) (E : Objects) (c d : Calls) (w : Setting) (s
   abbrev ops : Trees
   ops = operands ks all
 
+  abbrev moved_ops : Trees
+  moved_ops = moved_all w.plans sees ops
+
   abbrev others : Trees
-  others = moved_all w.plans sees ops
+  others = all_stated moved_ops
 
   row_given : (us ws : List Value) → Arguments TypedValues (types_of ops) us ws → GivesAlike op (immediate_among ks all) is.plan us ws
   row_given us ws h = is.stands.gives us ws (of_types n E c d w sees calls t f op all found is us ws h)
@@ -156,24 +160,24 @@ module _ (law : PlaceLaw) (n : ℕ) (E : Objects) (c d : Calls) (w : Setting) (s
       )
       (result_alike us h.0 h.2.values, h.4)
 
-  plain_placed : stands_in_place (all_true ops) is.plan ≡ true → (x y : State) → Alike n E x y → (o : Out (List Value)) → PlainlyEnded d ops others x y o → Placed y o
+  plain_placed : stands_in_place (all_true ops) is.plan ≡ true → (x y : State) → Alike n E x y → (o : Out (List Value)) → PlainlyEnded d ops moved_ops x y o → Placed y o
   plain_placed st x y al Undefined h = tt
   plain_placed st x y al Turns h = absurd h
   plain_placed st x y al (Done us u) h =
       let ws = h.1.0 in
       let g = row_given us ws h.1.1 in
       let none = no_compounds (all_true ops) 0 ops (whole (all_true ops)) in
-      let run = subst (λ ns. RunsAmong d place (listed others) ws (all_true ops) y ns y) (sym none) (plainly_readable d place ops others ws y h.1.2, refl) in
+      let run = subst (λ ns. RunsAmong d place (listed others) ws (all_true ops) y ns y) (sym none) (plainly_readable d place ops others ws y (read_stated d moved_ops ws y h.1.2), refl) in
       rw (source_done us ws h.1.1 u, law.gives place (listed others) (all_true ops) is.plan is.stands.callable.0 st d calls.neon ws y y run g.w g.sequence)
       (result_alike us ws h.1.1, subst (λ z. After n E y z y) (sym h.0) (after_same n E x y al))
 
   abbrev Moves : Type 0
   Moves = Sim n (Given TypedValues t) E E (expression (Node p t (Call f all)) c) (expression (in_place place (listed others) is.plan.result) d)
 
-  pub mixed_sim : (flags : List Bool) → stands_in_place flags is.plan ≡ true → Operands n E c d flags ops others → Moves
+  pub mixed_sim : (flags : List Bool) → stands_in_place flags is.plan ≡ true → Operands n E c d flags ops moved_ops → Moves
   mixed_sim flags st k = record {
     by = λ x y al. rw (values_split c w sees ks all (immediate_among ks all) is.immediate ready x)
-        (mixed_ends flags st k y (values ops c x) (ends n E c d flags ops others k is.carried x y al));
+        (let shown = operands_stated n E c d flags ops moved_ops k in mixed_ends flags st shown y (values ops c x) (ends n E c d flags ops others shown is.carried x y al));
   }
 
   pub plain_sim : are_plain ops ≡ true → stands_in_place (all_true ops) is.plan ≡ true → AllAlike n E c d w.plans sees ops → Moves

@@ -9,6 +9,7 @@ use Rattle.scalar_core.specs.NumberLaws.{converted_type, converted_kept}
 use Rattle.const_imm.specs.Sizes.{size_of}
 use Rattle.c_text.specs.declared.tokens.Place.{Place}
 use Rattle.c_tree.specs.declared.types.CType.{CType}
+use Rattle.c_tree.specs.Nodes.{node_place}
 use Rattle.c_tree.specs.Tree.{Tree, Node, Cast, SizeOfType, SizeOfName}
 use Rattle.c_memory.specs.declared.value.Value.{Value}
 use Rattle.c_memory.specs.Matching.{written_integer, written_type}
@@ -159,6 +160,6 @@ cast_sim n E c d p q t s a b false e f h = at (same_type (written_type (type_of 
   where
     at : (v : Bool) → same_type (written_type (type_of a)) (CType.Int (written_integer s)) ≡ v
         → Sim n (Given TypedValues t) E E (expression (Node p t (Cast (CType.Int s) a false)) c)
-        (expression (if v then b else Node q (CType.Int (written_integer s)) (Cast (CType.Int (written_integer s)) b false)) d)
+        (expression (if v then b else Node (node_place b) (CType.Int (written_integer s)) (Cast (CType.Int (written_integer s)) b false)) d)
     at true g = dropped_cast_sim n E c d p t s a b e f g h
-    at false g = kept_cast_sim n E c d p q t (CType.Int (written_integer s)) s a b false false e f h
+    at false g = kept_cast_sim n E c d p (node_place b) t (CType.Int (written_integer s)) s a b false false e f h

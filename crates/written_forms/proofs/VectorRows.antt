@@ -61,10 +61,10 @@ of_registers (kind.Nothing ∷ ks) h vs ws a = absurd h
 
 -- ---- the row
 
-and_true : {a b : Bool} → a ≡ true → b ≡ true → (a && b) ≡ true
+pub and_true : {a b : Bool} → a ≡ true → b ≡ true → (a && b) ≡ true
 and_true h i = rw (h, i) refl
 
-not_negative : (m : Num) (imm : ℕ) → m.value ≡ pos imm → int_le (pos 0) m.value ≡ true
+pub not_negative : (m : Num) (imm : ℕ) → m.value ≡ pos imm → int_le (pos 0) m.value ≡ true
 not_negative m imm e = rw e (search (rules, arith))
 
 -- what the source's values are, for each parameter
@@ -152,7 +152,7 @@ fit_arguments (kind.Scalar t ∷ ks) h rs a = absurd h
 fit_arguments (kind.PointerTo e c ∷ ks) h rs a = absurd h
 fit_arguments (kind.Nothing ∷ ks) h rs a = absurd h
 
-in_range : (r : ImmRange) (imm : ℕ) → InImmRange r imm → is_in_range r imm ≡ true
+pub in_range : (r : ImmRange) (imm : ℕ) → InImmRange r imm → is_in_range r imm ≡ true
 in_range NoImmediate imm h = rw h refl
 in_range (Span l g) imm h =
     let a : l ≤ imm = h.0 in

@@ -8,3 +8,5 @@ pub mod Helpers
 pub mod ReadyUnits
 pub mod Claims
 pub mod Vectors
+pub mod Scalars
+pub mod Planned

@@ -12,6 +12,7 @@ use Rattle.const_imm.specs.Constant.{value_of}
 use Rattle.const_imm.specs.Sizes.{size_of}
 use Rattle.c_text.specs.declared.tokens.Place.{Place}
 use Rattle.c_tree.specs.declared.types.CType.{CType}
+use Rattle.c_tree.specs.Nodes.{node_place}
 use Rattle.c_tree.specs.Tree.{Tree, Kind, Trees, Node, Const, Name, Unary, Step, Binary, AndThen, OrElse, Choice, Assign, Comma, Cast, Call, SizeOfType, SizeOfName, NoTrees, More}
 use Rattle.c_memory.specs.Matching.{written_integer, written_type}
 use Rattle.c_memory.specs.Meaning.{type_of}
@@ -33,10 +34,11 @@ Plans = List ℕ → ℕ → Option Sequence
 abbrev pub number : Num → Num
 number n = num_of (written_integer n.ty) n.value
 
--- a conversion to type t of an expression whose type is written as s: a written cast stays, and another goes where the types are the same
+-- A conversion to type t of an expression whose type is written as s: a written cast stays, and another, which stands where its operand does,
+-- goes where the types are the same.
 abbrev pub cast : Place → CType → CType → Tree → Bool → Tree
 cast p t s a true = Node p t (Cast t a true)
-cast p t s a false = if same_type s t then a else Node p t (Cast t a false)
+cast p t s a false = if same_type s t then a else Node (node_place a) t (Cast t a false)
 
 -- a size is written as its value
 abbrev pub size : Place → Option ℕ → Tree
@@ -107,10 +109,19 @@ suffix Scale imm = codes "_" ++ decimal imm
 abbrev pub helper_name : List ℕ → ImmRange → ℕ → List ℕ
 helper_name f range imm = codes "mg" ++ (f ++ suffix range imm)
 
+-- A conversion of an operand is written where a sequence takes the operand's place: it may stand there where no conversion is wanted.
+abbrev pub stated : Tree → Tree
+stated (Node p t (Cast u a false)) = Node p t (Cast u a true)
+stated e = e
+
+abbrev pub all_stated : Trees → Trees
+all_stated NoTrees = NoTrees
+all_stated (More a rest) = More (stated a) (all_stated rest)
+
 -- the sequence stands in place of the call, or the call is one of the row's function
 abbrev pub row_written : Place → CType → List ℕ → Option Sequence → List Bool → Trees → Tree
 row_written p t name None flags args = Node p t (Call name args)
-row_written p t name (Some q) flags args = if stands_in_place flags q then in_place p (listed args) q.result else Node p t (Call name args)
+row_written p t name (Some q) flags args = if stands_in_place flags q then in_place p (listed (all_stated args)) q.result else Node p t (Call name args)
 
 abbrev pub called : Plans → Sees → Place → CType → List ℕ → Option IntelOp → Trees → Trees → Tree
 called plans sees p t f None all args = Node p t (Call f args)

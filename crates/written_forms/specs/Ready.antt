@@ -23,6 +23,7 @@ use Rattle.intel_table.specs.declared.IntelOp.{IntelOp}
 use Rattle.intel_table.specs.Rows.{find_of, signature_of, range_of, accesses_of, access_of, eval_of}
 use Rattle.type_rules.specs.Passing.{kind_type}
 use Rattle.seq_core.specs.Terms.{Sequence}
+use Rattle.seq_core.specs.Formed.{sequence_type}
 use Rattle.seq_core.specs.Claims.{IsCallable}
 use Rattle.seq_core.specs.InPlace.{stands_in_place}
 use Rattle.seq_core.specs.Values.{sequence_value}
@@ -201,6 +202,7 @@ pub record CallsRow (w : Setting) (sees : Sees) (t : CType) (f : List ℕ) (op :
   pub plan : Sequence
   pub is : w.plans f (immediate_among (params_of (signature_of op)) all) ≡ Some plan
   pub stands : Stands op (immediate_among (params_of (signature_of op)) all) plan
+  pub gives : sequence_type plan ≡ written_type (kind_type (signature_of op).result)
   pub immediate : HasImmediate (params_of (signature_of op)) all (immediate_among (params_of (signature_of op)) all)
   pub helped : stands_in_place (simple sees (operands (params_of (signature_of op)) all)) plan ≡ false → w.helps f (immediate_among (params_of (signature_of op)) all) ≡ true
   pub types : types_of (operands (params_of (signature_of op)) all) ≡ operand_types (params_of (signature_of op))

@@ -1,6 +1,7 @@
 -- What is asked of a unit, so that what is written for it does the same.
-use Rattle.std.specs.Prelude.{◌≡◌, ◌⊎◌, ℕ, Bool, true, false, List, [], ◌∷◌, Option, Some, None, if◌then◌else◌}
+use Rattle.std.specs.Prelude.{◌≡◌, ◌<◌, ◌^◌, ◌⊎◌, ℕ, Bool, true, false, List, [], ◌∷◌, Option, Some, None, if◌then◌else◌}
 use Rattle.std.specs.Str.{bytes_eq}
+use Rattle.lane_core.specs.Table.{params_of}
 use Rattle.c_tree.specs.Tree.{Definition, External, Function, Table}
 use Rattle.c_memory.specs.Functions.{types_of, none_named}
 use Rattle.c_memory.specs.Meaning.{is_helper, functions}
@@ -9,9 +10,10 @@ use Rattle.intel_table.specs.Rows as intel
 use Rattle.neon_table.specs.Rows as neon
 use Rattle.seq_core.specs.Claims.{IsCallable}
 use Rattle.written_forms.specs.Moved.{Plans, helper_name}
-use Rattle.written_forms.specs.Ready.{Heading, Setting}
+use Rattle.written_forms.specs.Ready.{Heading, Setting, AreCarried, operand_types}
 use Rattle.written_forms.specs.ReadyStatements.{ReadyFunction}
 use Rattle.written_forms.specs.Helpers.{Use, has_name}
+use Rattle.written_forms.specs.Planned.{FitsRow}
 
 abbrev pub Heads : Type 0
 Heads = List ℕ → Option Heading
@@ -41,13 +43,17 @@ ReadyItems plans helps heads (Table d is_static ∷ rest) = ⊥
 
 -- ---- functions of rows
 
--- the function of a row: its name is no row's and is one of a row's function, no function of the unit has it, and it does what its sequence does
+-- The function of a row: its name is no row's and is one of a row's function, no function of the unit has it, and it does what its sequence does,
+-- which fits the row.
 pub record IsHelper (plans : Plans) (unit : List External) (u : Use) : Type 0 where
   pub op : IntelOp
   pub is : intel.find_of u.row ≡ Some op
   pub name : u.name ≡ helper_name u.row (intel.range_of op) u.imm
   pub plan : plans u.row u.imm ≡ Some u.plan
   pub callable : IsCallable u.plan
+  pub carried : AreCarried (operand_types (params_of (intel.signature_of op)))
+  pub fits : FitsRow op u.imm u.plan
+  pub small : u.imm < 2 ^ 64
   pub helper : is_helper u.name ≡ true
   pub no_neon : neon.find_of u.name ≡ None
   pub unused : none_named u.name (functions unit) ≡ true

@@ -1,6 +1,7 @@
 //! What holds of what is written.
 
 ghost use Rattle.written_forms.specs.Claims.{WrittenDoesTheSame};
+ghost use Rattle.written_forms.specs.Scalars.{ValueRowsStand};
 ghost use Rattle.written_forms.specs.Vectors.{VectorRowsStand};
 
 use c_memory::braces_change_nothing;
@@ -30,4 +31,10 @@ pub fn what_is_written_does_the_same()
 /// and touches no memory.
 pub fn a_sequence_of_registers_stands_for_its_row()
     ensures { VectorRowsStand }
+{}
+
+/// A sequence whose parameters and value have the types that an Intel row's are written as, and whose value is the row's for all registers and
+/// integers and an immediate, stands for the row, where the row touches no memory.
+pub fn a_sequence_of_values_stands_for_its_row()
+    ensures { ValueRowsStand }
 {}

@@ -6,4 +6,7 @@
 
 mod laws;
 
-pub use laws::{a_sequence_of_registers_stands_for_its_row, what_is_written_does_the_same};
+pub use laws::{
+    a_sequence_of_registers_stands_for_its_row, a_sequence_of_values_stands_for_its_row,
+    what_is_written_does_the_same,
+};
