@@ -1,0 +1,2 @@
+mod NamedMacros
+mod NamedTexts

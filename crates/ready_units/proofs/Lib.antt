@@ -1,0 +1,17 @@
+mod Calm
+mod SeenObjects
+mod Immediates
+mod Sound
+mod Conversions
+mod Forms
+mod Arguments
+mod Rows
+mod Expressions
+mod CalmStatements
+mod Statements
+mod RowNames
+mod HelperNames
+mod GoodUses
+mod Uses
+mod Functions
+mod Units

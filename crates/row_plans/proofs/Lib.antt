@@ -1,0 +1,3 @@
+mod Chosen
+mod Rows
+mod Fitting

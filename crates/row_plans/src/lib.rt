@@ -1,0 +1,6 @@
+//! The sequence of each row, by its name and immediate.
+#![tactic(auto)]
+
+mod laws;
+
+pub use laws::plans_fit;

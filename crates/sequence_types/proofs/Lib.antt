@@ -1,0 +1,14 @@
+mod CallsOfRows
+mod DeclaredTypes
+mod FunctionBodies
+mod Functions
+mod Given
+mod InPlace
+mod LookedUp
+mod Operands
+mod Parts
+mod RowKinds
+mod RowsBehind
+mod SeenVariables
+mod VariableNames
+mod Written

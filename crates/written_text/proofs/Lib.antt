@@ -1,0 +1,12 @@
+mod Names
+mod RowWords
+mod Words
+mod Fine
+mod Terms
+mod RowFunctions
+mod Expressions
+mod Constants
+mod Told
+mod ReadTyped
+mod Statements
+mod Units

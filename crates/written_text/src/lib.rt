@@ -1,0 +1,6 @@
+//! The text of the unit that is written for a source.
+#![tactic(auto)]
+
+mod laws;
+
+pub use laws::a_written_unit_is_printed;
